@@ -1,0 +1,4 @@
+pub mod ByteLaws
+pub mod FieldLaws
+pub mod RecordLaws
+pub mod NameLaws

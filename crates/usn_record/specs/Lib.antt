@@ -1,0 +1,5 @@
+pub mod Bytes
+pub mod Layout
+pub mod Fields
+pub mod Record
+pub mod Names

@@ -1,0 +1,59 @@
+-- Two runs of one walk over byte lists that differ in places alone: where each visit comes out the same as long as the lists agree from its
+-- offset on outside the places of what is found from there on, the walks are the same. Assumes nothing.
+use Prim.Native.Nat.{ℕ, zero, suc, _+_, _≤_, _<_}
+use mathlib.Core.Path.{_≡_, refl, ap, _∙_}
+use mathlib.Core.List.{List, [], _∷_, _++_}
+use native.Mathlib.Omega.{arith}
+use lib.ListN.{length, getD}
+use Rattle.walk.specs.Walk.{Visit, stop, go, after, walk}
+use Rattle.walk.specs.Masked.{Within, Apart, placesOf}
+use Rattle.walk.specs.declared.Place.{Place}
+use Rattle.walk.proofs.WalkLaws.{All, Finds, all-append}
+
+pub apart-append : (ps qs : List Place) (i : ℕ) → Apart ps i → Apart qs i → Apart (ps ++ qs) i
+apart-append [] qs i h k = k
+apart-append (p ∷ ps) qs i h k = (h .0, apart-append ps qs i (h .1) k)
+
+module _ {A : Type 0} (places : A → List Place) where
+  -- where each thing lies apart from i, all of them do
+  pub apart-all : (xs : List A) (i : ℕ) → All (λ x. Apart (places x) i) xs → Apart (placesOf places xs) i
+  apart-all [] i h = tt
+  apart-all (x ∷ xs) i h = apart-append (places x) (placesOf places xs) i (h .0) (apart-all xs i (h .1))
+
+  pub places-append : (xs ys : List A) → placesOf places (xs ++ ys) ≡ placesOf places xs ++ placesOf places ys
+  places-append [] ys = refl
+  places-append (x ∷ xs) ys = rw (places-append xs ys) (append-swap (places x) (placesOf places xs) (placesOf places ys))
+    where
+      append-swap : (a b c : List Place) → a ++ (b ++ c) ≡ (a ++ b) ++ c
+      append-swap [] b c = refl
+      append-swap (x ∷ a) b c = ap (λ (l : List Place). x ∷ l) (append-swap a b c)
+
+-- the lists are the same from o on, outside these places
+abbrev pub Same : List ℕ → List ℕ → List Place → ℕ → Type 0
+Same s t ps o = (i : ℕ) → o ≤ i → Apart ps i → getD t i 0 ≡ getD s i 0
+
+-- what a visit finds has its places before the next offset
+abbrev pub Before : {A : Type 0} → (A → List Place) → Visit A → Type 0
+Before places stop = Unit {0}
+Before places (go es p) = (i : ℕ) → p ≤ i → Apart (placesOf places es) i
+
+module _ {A : Type 0} (s t : List ℕ) (places : A → List Place) (visit visit′ : ℕ → Visit A) (P : A → Type 0) (Fine : List A → Type 0)
+    (fine : (es fs : List A) → Fine (es ++ fs) → Fine fs)
+    (forward : (o p : ℕ) (es : List A) → visit o ≡ go es p → o ≤ p)
+    (before : (o : ℕ) → Before places (visit o))
+    (reads : (k o : ℕ) → Fine (walk visit (suc k) o) → Same s t (placesOf places (walk visit (suc k) o)) o → (visit′ o ≡ visit o) × Finds P (visit o)) where
+  turn : (o : ℕ) (v : Visit A) (f g : ℕ → List A) → visit o ≡ v → Before places v → Finds P v → Fine (after v f) → Same s t (placesOf places (after v f)) o
+      → ((p : ℕ) → Fine (f p) → Same s t (placesOf places (f p)) p → (g p ≡ f p) × All P (f p)) → (after v g ≡ after v f) × All P (after v f)
+  turn o stop f g e b w fi m ih = (refl, tt)
+  turn o (go es p) f g e b w fi m ih =
+      let r = ih p (fine es (f p) fi)
+      (λ i h a. m i (omega (arith, forward o p es e)) (rw (places-append places es (f p)) (apart-append (placesOf places es) (placesOf places (f p)) i (b i h) a))) in
+      (ap (λ (l : List A). es ++ l) (r .0), all-append P es (f p) w (r .1))
+
+  pub walk-two-runs : (k o : ℕ) → Fine (walk visit k o) → Same s t (placesOf places (walk visit k o)) o
+      → (walk visit′ k o ≡ walk visit k o) × All P (walk visit k o)
+  unfolding walk
+  walk-two-runs zero o fi m = (refl, tt)
+  walk-two-runs (suc k) o fi m =
+      let q = reads k o fi m in
+      rw (q .0) (turn o (visit o) (walk visit k) (walk visit′ k) refl (before o) (q .1) fi m (walk-two-runs k))

@@ -1,0 +1,7 @@
+pub mod Refusals
+pub mod Outcome
+pub mod Places
+pub mod Lists
+pub mod Walk
+pub mod Agree
+pub mod Masked

@@ -1,0 +1,30 @@
+-- The numbers of the refusals, and the sizes up to which the calls answer.
+use Prim.Native.Nat.{ℕ}
+
+-- a slice, an image or a stream is longer than is read
+abbrev pub aboveDomain : ℕ
+aboveDomain = 1
+
+-- a slice is shorter than a record's fixed part
+abbrev pub shortSlice : ℕ
+shortSlice = 2
+
+-- a record's length field is below its fixed part or above `maxRecord`
+abbrev pub badLength : ℕ
+badLength = 3
+
+-- a record's length passes the slice
+abbrev pub lengthPastSlice : ℕ
+lengthPastSlice = 4
+
+-- there are more results than the lent list takes
+abbrev pub listFull : ℕ
+listFull = 5
+
+-- a listed offset has no version 2 or 3 record that its parser accepts
+abbrev pub notARecord : ℕ
+notARecord = 12
+
+-- the most bytes of an extract or an image
+abbrev pub domain : ℕ
+domain = 1073741824

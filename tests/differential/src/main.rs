@@ -1,0 +1,84 @@
+//! Compares our library with the Rust library that it replaces, on the same inputs. README.md says how to run it.
+//!
+//! The original's files are modules of this program, compiled from where they lie (build.rs). They name each other by
+//! `crate::`, so they stand at the crate root with the stand-ins for what they lack: `error`, `usn`, and the crates
+//! `chrono` and `safe_read`.
+
+mod difference;
+mod error;
+mod library;
+mod random;
+mod records;
+mod usn;
+
+include!(concat!(env!("OUT_DIR"), "/original.rs"));
+
+use difference::Outcome;
+use std::path::Path;
+use std::process::ExitCode;
+
+const USAGE: &str = "usage: differential [--seed N] [--cases N]\n       differential --record DIR";
+
+/// The seed of a run and how many random cases each subject has.
+pub struct Run {
+    pub seed: u64,
+    pub cases: u64,
+}
+
+enum Command {
+    Compare(Run),
+    Record(String),
+}
+
+fn main() -> ExitCode {
+    match command(std::env::args().skip(1)) {
+        None => {
+            eprintln!("{USAGE}");
+            ExitCode::from(2)
+        }
+        Some(Command::Record(folder)) => match records::sample::write(Path::new(&folder)) {
+            Ok(()) => ExitCode::SUCCESS,
+            Err(error) => {
+                eprintln!("{folder}: {error}");
+                ExitCode::FAILURE
+            }
+        },
+        Some(Command::Compare(run)) => match compare(&run) {
+            Ok(()) => ExitCode::SUCCESS,
+            Err(difference) => {
+                println!("{difference}");
+                ExitCode::FAILURE
+            }
+        },
+    }
+}
+
+/// Every subject in turn, up to the first difference.
+fn compare(run: &Run) -> Outcome {
+    records::parsers::run(run)?;
+    records::listed::run(run)
+}
+
+/// The command line; nothing where it is not understood.
+fn command(mut words: impl Iterator<Item = String>) -> Option<Command> {
+    let mut run = Run {
+        seed: 1,
+        cases: 1_000_000,
+    };
+    let mut folder = None;
+    let mut numbers = false;
+    while let Some(word) = words.next() {
+        let value = words.next()?;
+        match word.as_str() {
+            "--seed" => run.seed = value.parse().ok()?,
+            "--cases" => run.cases = value.parse().ok()?,
+            "--record" => folder = Some(value),
+            _ => return None,
+        }
+        numbers |= word != "--record";
+    }
+    match folder {
+        None => Some(Command::Compare(run)),
+        Some(folder) => (!numbers).then_some(Command::Record(folder)),
+    }
+}

@@ -1,0 +1,137 @@
+//! The recorded sample: inputs and the Rust's answers to them, for a test that has no Rust. It is the same byte for byte
+//! in every run.
+//!
+//! `stdin` is the inputs one after another: a byte, the version (2 or 3), four bytes, the slice's length, little endian,
+//! and the slice. `stdout` has a line for each: `error`, or the fields in decimal and the name in hexadecimal.
+
+use super::answers::PARSERS;
+use super::layout::Layout;
+use super::{cases, edges};
+use crate::random::Random;
+use crate::usn::UsnRecord;
+use std::fmt::Write;
+use std::path::Path;
+use std::{fs, io};
+
+const SEED: u64 = 20_261_112;
+const STREAM: u64 = 3;
+
+/// How many inputs are recorded.
+const INPUTS: usize = 300;
+
+/// How many exhaustive inputs of each kind are taken; random ones make up the rest.
+const OF_EACH_KIND: usize = 16;
+
+/// The largest slice that is recorded, and the largest `stdin`.
+const LONGEST_SLICE: usize = 300;
+const LONGEST_STDIN: usize = 60_000;
+
+#[derive(Default)]
+struct Sample {
+    inputs: usize,
+    stdin: Vec<u8>,
+    stdout: String,
+}
+
+/// Writes the files `stdin` and `stdout` of the sample to a folder, which is made where it is missing.
+pub fn write(folder: &Path) -> io::Result<()> {
+    let mut sample = Sample::default();
+    exhaustive(&mut sample);
+    random(&mut sample);
+    if sample.stdin.len() > LONGEST_STDIN {
+        return Err(io::Error::other(format!(
+            "the inputs have {} bytes, above {LONGEST_STDIN}",
+            sample.stdin.len()
+        )));
+    }
+    fs::create_dir_all(folder)?;
+    fs::write(folder.join("stdin"), &sample.stdin)?;
+    fs::write(folder.join("stdout"), &sample.stdout)?;
+    println!("recorded: {} inputs, {} bytes", sample.inputs, sample.stdin.len());
+    Ok(())
+}
+
+/// Of each kind of exhaustive input some, spread evenly over the small ones.
+fn exhaustive(sample: &mut Sample) {
+    let mut inputs = edges::inputs();
+    inputs.retain(|input| input.bytes.len() <= LONGEST_SLICE);
+    let mut kinds: Vec<&str> = inputs.iter().map(|input| input.kind).collect();
+    kinds.sort_unstable();
+    kinds.dedup();
+    for kind in kinds {
+        let of_kind: Vec<_> = inputs.iter().filter(|input| input.kind == kind).collect();
+        let taken = of_kind.len().min(OF_EACH_KIND);
+        for i in 0..taken {
+            let input = of_kind[i * of_kind.len() / taken];
+            sample.add(input.layout, &input.bytes);
+        }
+    }
+}
+
+/// Random inputs, up to the number wanted. Some are read in the other version than they are written in.
+fn random(sample: &mut Sample) {
+    let mut bytes = Vec::new();
+    let mut case = 0;
+    while sample.inputs < INPUTS {
+        let mut random = Random::of_case(SEED, STREAM, case);
+        let (_, written) = cases::fill(&mut random, &mut bytes);
+        let read = if random.one_in(8) {
+            random.pick(&super::layout::LAYOUTS)
+        } else {
+            written
+        };
+        sample.add(read, &bytes);
+        case += 1;
+    }
+}
+
+impl Sample {
+    /// Adds an input and the Rust's answer. A long slice is left out, and so is a name with U+FFFD, whose text does not
+    /// tell the units.
+    fn add(&mut self, layout: &Layout, bytes: &[u8]) {
+        if bytes.len() > LONGEST_SLICE {
+            return;
+        }
+        let parser = PARSERS
+            .iter()
+            .find(|parser| parser.layout.major_version == layout.major_version);
+        let answer = (parser.expect("every layout has a parser").rust)(bytes);
+        let line = match &answer {
+            Ok(record) if record.filename.contains(char::REPLACEMENT_CHARACTER) => return,
+            Ok(record) => line(record),
+            Err(_) => "error".to_string(),
+        };
+        self.inputs += 1;
+        self.stdin.push(layout.major_version as u8);
+        self.stdin.extend_from_slice(&(bytes.len() as u32).to_le_bytes());
+        self.stdin.extend_from_slice(bytes);
+        self.stdout += &line;
+        self.stdout.push('\n');
+    }
+}
+
+/// The fields in decimal, the USN by its 64 bits, and the name as four hexadecimal digits a unit, `-` if it is empty.
+fn line(record: &UsnRecord) -> String {
+    let mut name = String::new();
+    for unit in record.filename.encode_utf16() {
+        write!(name, "{unit:04x}").expect("a String takes any text");
+    }
+    if name.is_empty() {
+        name.push('-');
+    }
+    format!(
+        "{} {} {} {} {} {} {} {} {} {} {} {} {name}",
+        record.mft_entry,
+        record.mft_sequence,
+        record.parent_mft_entry,
+        record.parent_mft_sequence,
+        record.usn as u64,
+        record.timestamp.timestamp(),
+        record.timestamp.timestamp_subsec_nanos(),
+        record.reason.bits(),
+        record.file_attributes.bits(),
+        record.source_info,
+        record.security_id,
+        record.major_version,
+    )
+}
