@@ -1,5 +1,5 @@
 //! Says where the original's files and our static library lie. The original is compiled from where it is, unchanged:
-//! this writes the module declarations that point to its files, one list for the crate root and one for the module `usn`.
+//! this writes the module declarations that point to its files, one list for the crate root and one for `usn`.
 
 use std::path::{Path, PathBuf};
 use std::{env, fs};

@@ -1,4 +1,5 @@
 pub mod ByteLaws
+pub mod SignedLaws
 pub mod FieldLaws
 pub mod RecordLaws
 pub mod NameLaws

@@ -1,8 +1,10 @@
-// Little-endian reads over untrusted bytes: a read that runs past the slice is 0.
+// Little-endian reads over untrusted bytes: a read that runs past the slice is 0. And the bits of a signed number.
 //
-// Each is made of two reads of half its width, which the compiler joins into one load after the range test.
+// Each read is made of two reads of half its width, which the compiler joins into one load after the range test.
 ghost use mathlib.Core.Path.{_≡_};
 ghost use Prim.Native.Nat.{_<_};
+ghost use mir.Syntax.{w64};
+ghost use mir.Val.{ofZ};
 ghost use Rattle.usn_record.specs.Bytes.{leAt};
 
 // The two bytes at an offset.
@@ -45,6 +47,13 @@ pub fn le_u64(data: &[u8], offset: usize) -> u64
         return 0;
     }
     (le_u32(data, offset) as u64) + (le_u32(data, offset + 4) as u64) * 0x1_0000_0000
+}
+
+// The 64 bits of a signed number.
+pub fn signed_bits(z: i64) -> u64
+    ensures { λ r. ⌜ r ≡ ofZ w64 z ⌝ }
+{
+    if z < 0 { !((!z) as u64) } else { z as u64 }
 }
 
 fn wide(x: u8) -> u16

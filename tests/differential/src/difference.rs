@@ -17,7 +17,8 @@ pub struct Finding {
 #[derive(Debug, Clone, Copy)]
 pub struct Case<'a> {
     pub subject: &'static str,
-    pub seed: u64,
+    /// The seed of a random case; an exhaustive one has none.
+    pub seed: Option<u64>,
     pub number: u64,
     pub kind: &'static str,
     pub bytes: &'a [u8],
@@ -47,11 +48,14 @@ impl Case<'_> {
         for byte in shown {
             write!(hex, "{byte:02x}").expect("a String takes any text");
         }
+        let seed = self
+            .seed
+            .map_or("none, an exhaustive case".to_string(), |seed| seed.to_string());
         let rest = if shown.len() < self.bytes.len() { ".." } else { "" };
         Difference(format!(
-            "{}: DIFFERENCE\nseed: {}\ncase: {}\nkind: {}\ncall: {}\nwhat: {}\nRust: {}\nours: {}\n{} bytes: {hex}{rest}",
+            "{}: DIFFERENCE\nseed: {seed}\ncase: {}\nkind: {}\ncall: {}\nwhat: {}\nRust: {}\nours: {}\n\
+             {} bytes: {hex}{rest}",
             self.subject,
-            self.seed,
             self.number,
             self.kind,
             finding.call,

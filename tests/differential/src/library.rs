@@ -1,7 +1,7 @@
 //! The calls of our library, `libusn_journal_reader.a`. Nothing checks these declarations against its source.
 //!
-//! Each call answers 0 and writes the 19 words of a record, or answers a refusal number and writes nothing. Slices pass as
-//! a pointer and a length. The calls ask nothing of their arguments, so the wrappers are safe for any slices.
+//! Each call answers 0 and writes the 19 words of a record, or answers a refusal number and writes nothing. Slices pass
+//! as a pointer and a length. The calls ask nothing of their arguments, so the wrappers are safe for any slices.
 
 /// The words that an accepted call writes, in this order. Signed fields are given by their 64 bits.
 pub const FIELDS: [&str; 19] = [

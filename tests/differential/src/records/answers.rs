@@ -2,7 +2,6 @@
 
 use super::layout::{number, Layout, FILE_REFERENCE, LARGEST, MAJOR_VERSION, MINOR_VERSION, V2, V3};
 use crate::difference::Finding;
-use crate::error::Result;
 use crate::library::{self, ABOVE_DOMAIN, ACCEPTED, DOMAIN, FIELDS, NAME, NO_ROOM, WORDS};
 use crate::library::{LENGTH_OUTSIDE, LENGTH_PAST_SLICE, NOT_LISTED, TOO_SHORT};
 use crate::usn::{parse_usn_record_v2, parse_usn_record_v3, UsnRecord};
@@ -11,7 +10,7 @@ use crate::usn::{parse_usn_record_v2, parse_usn_record_v3, UsnRecord};
 pub struct Parser {
     pub call: &'static str,
     pub layout: &'static Layout,
-    pub rust: fn(&[u8]) -> Result<UsnRecord>,
+    pub rust: fn(&[u8]) -> crate::error::Result<UsnRecord>,
     pub ours: fn(&[u8], &mut [u64]) -> u32,
 }
 
@@ -110,7 +109,7 @@ impl Answer {
 }
 
 /// Calls a parser on `data`, lending `lent` words.
-pub fn compare_parser(parser: &Parser, data: &[u8], lent: usize) -> std::result::Result<(), Finding> {
+pub fn compare_parser(parser: &Parser, data: &[u8], lent: usize) -> Result<(), Finding> {
     let rust = (parser.rust)(data);
     let ours = Answer::of(lent, |words| (parser.ours)(data, words));
     let what = match (refusal(parser.layout, data), &rust) {
@@ -126,7 +125,7 @@ pub fn compare_parser(parser: &Parser, data: &[u8], lent: usize) -> std::result:
 }
 
 /// Calls for the record at `offset` of an extract, lending `lent` words.
-pub fn compare_listed(data: &[u8], offset: usize, lent: usize) -> std::result::Result<(), Finding> {
+pub fn compare_listed(data: &[u8], offset: usize, lent: usize) -> Result<(), Finding> {
     let rust = listed_by_rust(data, offset);
     let ours = Answer::of(lent, |words| library::usn_listed_record(data, offset, words));
     let what = match &rust {
@@ -142,10 +141,10 @@ pub fn compare_listed(data: &[u8], offset: usize, lent: usize) -> std::result::R
 
 fn finding<E: std::fmt::Display>(
     what: Option<String>,
-    rust: &std::result::Result<UsnRecord, E>,
+    rust: &Result<UsnRecord, E>,
     ours: &Answer,
     call: impl FnOnce() -> String,
-) -> std::result::Result<(), Finding> {
+) -> Result<(), Finding> {
     let Some(what) = what else { return Ok(()) };
     let rust = match rust {
         Ok(record) => format!("{record:?}"),
@@ -179,7 +178,7 @@ fn refusal(layout: &Layout, data: &[u8]) -> u32 {
 
 /// What the Rust's parsers make of a listed record: the one for its version, handed the part of the extract that begins
 /// at `offset` and is as long as the length field says. The record comes with that parser and that part.
-fn listed_by_rust(data: &[u8], offset: usize) -> std::result::Result<(&'static Parser, &[u8], UsnRecord), String> {
+fn listed_by_rust(data: &[u8], offset: usize) -> Result<(&'static Parser, &[u8], UsnRecord), String> {
     let rest = data.get(offset..).unwrap_or_default();
     if rest.len() < 8 {
         return Err("fewer than 8 bytes left".to_string());

@@ -107,11 +107,12 @@ fn reference(random: &mut Random) -> u64 {
     }
 }
 
-/// Mostly a time of the carving range; else around 1970, around 0, or any 64 bits.
+/// Mostly a time of the carving range; else within two seconds or a few ticks of 1970, a few ticks from 0, or any.
 fn filetime(random: &mut Random) -> u64 {
+    const EPOCH: u64 = 116_444_736_000_000_000;
     match random.below(8) {
-        0 => 116_444_736_000_000_000 - 20_000_000 + random.below(40_000_000) as u64,
-        1 => (random.below(40) as u64).wrapping_sub(20),
+        0 => EPOCH - 20_000_000 + random.below(40_000_000) as u64,
+        1 => (random.pick(&[0, EPOCH]) + random.below(8) as u64).wrapping_sub(4),
         2 => random.number(),
         _ => 125_911_584_000_000_000 + random.below(9_468_192_000_000_000) as u64,
     }

@@ -1,4 +1,5 @@
-//! The exhaustive inputs: every combination of the numbers at which a parser decides, on slices that are mostly small.
+//! The exhaustive inputs: groups of numbers at which a parser decides, all combinations within a group, on slices that
+//! are mostly small.
 
 use super::layout::{put, Fields, Layout, FILE_REFERENCE, LARGEST, LAYOUTS, MAJOR_VERSION, MINOR_VERSION};
 
@@ -73,7 +74,8 @@ fn example_of(layout: &Layout, length: usize) -> Vec<u8> {
     bytes
 }
 
-/// Every slice length to 200: zeros, all bits set, the example, and the example with its length field set to the slice's.
+/// Every slice length to 200: zeros, all bits set, the example, and the example with the slice's length in its length
+/// field.
 fn slice_lengths(layout: &'static Layout, inputs: &mut Vec<Input>) {
     for length in 0..=200 {
         let mut add = |kind, bytes| inputs.push(Input { kind, layout, bytes });

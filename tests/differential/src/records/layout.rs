@@ -1,5 +1,5 @@
-//! Where the fields of a record lie, from Microsoft's pages on `USN_RECORD_V2` and `USN_RECORD_V3`, and a writer of fixed
-//! parts. It is written apart from the original and from our library, so that a mistake in one is not repeated here.
+//! Where the fields of a record lie, by document 01's table, and a writer of fixed parts. It is written apart from the
+//! original and from our library, so that a mistake in one is not repeated here.
 
 /// The offsets at which the two versions differ. The record length is at 0, the versions at 4 and 6, the file
 /// reference at 8.

@@ -15,25 +15,25 @@ const SUBJECT: &str = "listed records";
 const STREAM: u64 = 2;
 
 pub fn run(run: &Run) -> Outcome {
-    let exhaustive = exhaustive(run)?;
+    let exhaustive = exhaustive()?;
     println!("{SUBJECT}: {exhaustive} exhaustive cases, no difference");
     let mut bytes = Vec::new();
     for number in 0..run.cases {
         let mut random = Random::of_case(run.seed, STREAM, number);
         let (kind, offset) = fill(&mut random, &mut bytes);
         let lent = lent(&mut random);
-        compare(run, number, kind, (&bytes, offset), &[lent])?;
+        compare(Some(run.seed), number, kind, (&bytes, offset), &[lent])?;
     }
     println!("{SUBJECT}: {} cases, seed {}, no difference", run.cases, run.seed);
     Ok(())
 }
 
 /// The record at an offset of an extract, lent each number of words in turn.
-fn compare(run: &Run, number: u64, kind: &'static str, place: (&[u8], usize), lent: &[usize]) -> Outcome {
+fn compare(seed: Option<u64>, number: u64, kind: &'static str, place: (&[u8], usize), lent: &[usize]) -> Outcome {
     let (bytes, offset) = place;
     let case = Case {
         subject: SUBJECT,
-        seed: run.seed,
+        seed,
         number,
         kind,
         bytes,
@@ -45,12 +45,13 @@ fn compare(run: &Run, number: u64, kind: &'static str, place: (&[u8], usize), le
 }
 
 /// The exhaustive inputs, and records at both ends of the largest extract; how many they are.
-fn exhaustive(run: &Run) -> Result<u64, Difference> {
+fn exhaustive() -> Result<u64, Difference> {
     let mut number = 0;
     for input in listed_edges::inputs() {
-        compare(run, number, input.kind, (&input.bytes, input.offset), &LENT)?;
+        compare(None, number, input.kind, (&input.bytes, input.offset), &LENT)?;
         number += 1;
     }
+    number = before_the_extract(number)?;
     // The pages of this extract are not in memory before they are touched, and only those of the records are.
     let mut extract = vec![0; DOMAIN];
     for layout in LAYOUTS {
@@ -59,7 +60,22 @@ fn exhaustive(run: &Run) -> Result<u64, Difference> {
         extract[..record.len()].copy_from_slice(&record);
         extract[last..].copy_from_slice(&record);
         for offset in [0, 8, last - 8, last, last + 8, DOMAIN - 8, DOMAIN - 7, DOMAIN] {
-            compare(run, number, "largest extract", (&extract, offset), &LENT)?;
+            compare(None, number, "largest extract", (&extract, offset), &LENT)?;
+            number += 1;
+        }
+    }
+    Ok(number)
+}
+
+/// Offsets so near the end of the 64 bits that a sum which wraps would lead to the record that lies before the extract,
+/// where it begins in the middle of one. `number` is the first case's; gives the next one's.
+fn before_the_extract(mut number: u64) -> Result<u64, Difference> {
+    for layout in LAYOUTS {
+        let record = edges::example(layout);
+        let twice = record.repeat(2);
+        for before in 1..=record.len() {
+            let place = (&twice[before..], before.wrapping_neg());
+            compare(None, number, "record before the extract", place, &LENT)?;
             number += 1;
         }
     }

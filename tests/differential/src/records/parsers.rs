@@ -3,7 +3,7 @@
 use super::answers::{compare_parser, LENT, PARSERS};
 use super::layout::LAYOUTS;
 use super::{cases, edges, lent};
-use crate::difference::{Case, Outcome};
+use crate::difference::{Case, Difference, Outcome};
 use crate::library::DOMAIN;
 use crate::random::Random;
 use crate::Run;
@@ -14,24 +14,24 @@ const SUBJECT: &str = "parsers";
 const STREAM: u64 = 1;
 
 pub fn run(run: &Run) -> Outcome {
-    let exhaustive = exhaustive(run)?;
+    let exhaustive = exhaustive()?;
     println!("{SUBJECT}: {exhaustive} exhaustive cases, no difference");
     let mut bytes = Vec::new();
     for number in 0..run.cases {
         let mut random = Random::of_case(run.seed, STREAM, number);
         let (kind, _) = cases::fill(&mut random, &mut bytes);
         let lent = lent(&mut random);
-        compare(run, number, kind, &bytes, &[lent])?;
+        compare(Some(run.seed), number, kind, &bytes, &[lent])?;
     }
     println!("{SUBJECT}: {} cases, seed {}, no difference", run.cases, run.seed);
     Ok(())
 }
 
 /// Both parsers on one input, lent each number of words in turn.
-fn compare(run: &Run, number: u64, kind: &'static str, bytes: &[u8], lent: &[usize]) -> Outcome {
+fn compare(seed: Option<u64>, number: u64, kind: &'static str, bytes: &[u8], lent: &[usize]) -> Outcome {
     let case = Case {
         subject: SUBJECT,
-        seed: run.seed,
+        seed,
         number,
         kind,
         bytes,
@@ -45,10 +45,10 @@ fn compare(run: &Run, number: u64, kind: &'static str, bytes: &[u8], lent: &[usi
 }
 
 /// The exhaustive inputs and those at the domain's end; how many they are.
-fn exhaustive(run: &Run) -> Result<u64, crate::difference::Difference> {
+fn exhaustive() -> Result<u64, Difference> {
     let mut number = 0;
     for input in edges::inputs() {
-        compare(run, number, input.kind, &input.bytes, &LENT)?;
+        compare(None, number, input.kind, &input.bytes, &LENT)?;
         number += 1;
     }
     // The pages of this slice are not in memory before they are touched, and the parsers touch the first ones only.
@@ -57,7 +57,7 @@ fn exhaustive(run: &Run) -> Result<u64, crate::difference::Difference> {
     for beginning in [Vec::new()].iter().chain(&beginnings) {
         above[..beginning.len()].copy_from_slice(beginning);
         for (kind, slice) in [("domain", &above[..DOMAIN]), ("above the domain", &above[..])] {
-            compare(run, number, kind, slice, &LENT)?;
+            compare(None, number, kind, slice, &LENT)?;
             number += 1;
         }
     }

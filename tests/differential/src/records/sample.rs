@@ -1,11 +1,11 @@
-//! The recorded sample: inputs and the Rust's answers to them, for a test that has no Rust. It is the same byte for byte
-//! in every run.
+//! The recorded sample: inputs and the Rust's answers to them, for a test that has no Rust. It is the same byte for
+//! byte in every run.
 //!
-//! `stdin` is the inputs one after another: a byte, the version (2 or 3), four bytes, the slice's length, little endian,
-//! and the slice. `stdout` has a line for each: `error`, or the fields in decimal and the name in hexadecimal.
+//! `stdin` is the inputs one after another: a byte, the version (2 or 3), four bytes, the slice's length, little
+//! endian, and the slice. `stdout` has a line for each: `error`, or the fields in decimal and the name in hexadecimal.
 
 use super::answers::PARSERS;
-use super::layout::Layout;
+use super::layout::{Layout, LAYOUTS};
 use super::{cases, edges};
 use crate::random::Random;
 use crate::usn::UsnRecord;
@@ -13,14 +13,28 @@ use std::fmt::Write;
 use std::path::Path;
 use std::{fs, io};
 
+/// The sample's own seed, and the two streams of random numbers that it takes.
 const SEED: u64 = 20_261_112;
-const STREAM: u64 = 3;
+const EDGES: u64 = 1;
+const CASES: u64 = 2;
 
 /// How many inputs are recorded.
 const INPUTS: usize = 300;
 
 /// How many exhaustive inputs of each kind are taken; random ones make up the rest.
-const OF_EACH_KIND: usize = 16;
+const EXHAUSTIVE: [(&str, usize); 11] = [
+    ("zeros", 6),
+    ("all bits set", 6),
+    ("example of each length", 16),
+    ("example as long as its slice", 16),
+    ("length field", 40),
+    ("name place", 40),
+    ("time", 32),
+    ("USN", 8),
+    ("reference", 16),
+    ("version fields", 8),
+    ("single bit", 24),
+];
 
 /// The largest slice that is recorded, and the largest `stdin`.
 const LONGEST_SLICE: usize = 300;
@@ -51,18 +65,15 @@ pub fn write(folder: &Path) -> io::Result<()> {
     Ok(())
 }
 
-/// Of each kind of exhaustive input some, spread evenly over the small ones.
+/// Of each kind of exhaustive input as many as the table says, drawn from those on small slices.
 fn exhaustive(sample: &mut Sample) {
-    let mut inputs = edges::inputs();
-    inputs.retain(|input| input.bytes.len() <= LONGEST_SLICE);
-    let mut kinds: Vec<&str> = inputs.iter().map(|input| input.kind).collect();
-    kinds.sort_unstable();
-    kinds.dedup();
-    for kind in kinds {
-        let of_kind: Vec<_> = inputs.iter().filter(|input| input.kind == kind).collect();
-        let taken = of_kind.len().min(OF_EACH_KIND);
-        for i in 0..taken {
-            let input = of_kind[i * of_kind.len() / taken];
+    let inputs = edges::inputs();
+    for (number, (kind, wanted)) in (0..).zip(EXHAUSTIVE) {
+        let mut random = Random::of_case(SEED, EDGES, number);
+        let small = |input: &&edges::Input| input.kind == kind && input.bytes.len() <= LONGEST_SLICE;
+        let mut of_kind: Vec<_> = inputs.iter().filter(small).collect();
+        for _ in 0..wanted {
+            let input = of_kind.swap_remove(random.below(of_kind.len()));
             sample.add(input.layout, &input.bytes);
         }
     }
@@ -73,10 +84,10 @@ fn random(sample: &mut Sample) {
     let mut bytes = Vec::new();
     let mut case = 0;
     while sample.inputs < INPUTS {
-        let mut random = Random::of_case(SEED, STREAM, case);
+        let mut random = Random::of_case(SEED, CASES, case);
         let (_, written) = cases::fill(&mut random, &mut bytes);
         let read = if random.one_in(8) {
-            random.pick(&super::layout::LAYOUTS)
+            random.pick(&LAYOUTS)
         } else {
             written
         };

@@ -1,0 +1,42 @@
+-- Every case of the table holds: the checker computes one test over all of them, and one law turns it into each. Assumes nothing.
+use Prim.Native.Nat.{ℕ}
+use mathlib.Core.Path.{_≡_, refl, sym, ap, _∙_}
+use mathlib.Core.List.{List, [], _∷_, List·Memᴰ, List·Memᴰ·head, List·Memᴰ·tail, List·Memᴰ·not-nil}
+use mathlib.Core.Bool.{Bool, true, false, true≢false, _&&_}
+use lib.Dec.{eqb}
+use borrow.Author.Tests.{eqb-true}
+use Rattle.usn_record.specs.Bytes.{le, leAt}
+use Rattle.usn_record.specs.Fields.{timestampOf, referenceOf, filenameOf}
+use Rattle.usn_record.specs.Record.{recordOf, parsed, listed, recordWords}
+use Rattle.known.specs.Case.{Case, same, right}
+use Rattle.known.specs.Cases.{cases}
+
+both-left : (a b : Bool) → (a && b) ≡ true → a ≡ true
+both-left true b e = refl
+both-left false b e = e
+
+both-right : (a b : Bool) → (a && b) ≡ true → b ≡ true
+both-right true b e = e
+both-right false b e = absurd (true≢false (sym e))
+
+same-eq : (xs ys : List ℕ) → same xs ys ≡ true → xs ≡ ys
+same-eq [] [] e = refl
+same-eq [] (y ∷ ys) e = absurd (true≢false (sym e))
+same-eq (x ∷ xs) [] e = absurd (true≢false (sym e))
+same-eq (x ∷ xs) (y ∷ ys) e =
+    let h : x ≡ y = eqb-true x y (both-left (eqb x y) (same xs ys) e) in
+    let t : xs ≡ ys = same-eq xs ys (both-right (eqb x y) (same xs ys) e) in
+    cc
+
+-- each case of a table that passes the test is as known
+as-known : (cs : List Case) → right cs ≡ true → (c : Case) → List·Memᴰ c cs → c .says ≡ c .known
+as-known [] e c m = absurd (List·Memᴰ·not-nil m)
+as-known (x ∷ cs) e c (List·Memᴰ·head q) = rw q (same-eq (x .says) (x .known) (both-left (same (x .says) (x .known)) (right cs) e))
+as-known (x ∷ cs) e c (List·Memᴰ·tail m) = as-known cs (both-right (same (x .says) (x .known)) (right cs) e) c m
+
+computed : right cases ≡ true
+unfolding le leAt timestampOf referenceOf filenameOf recordOf parsed listed recordWords
+computed = refl
+
+pub known : (c : Case) → List·Memᴰ c cases → c .says ≡ c .known
+known = as-known cases computed

@@ -1,0 +1,4 @@
+pub mod Case
+pub mod Bytes
+pub mod Records
+pub mod Cases

@@ -1,0 +1,49 @@
+-- Known cases of times and single records.
+use Prim.Native.Nat.{ℕ}
+use mathlib.Core.List.{List, [], _∷_}
+use lib.IntN.{ℤ, pos, negsuc}
+use Rattle.walk.specs.Outcome.{outcomeWords}
+use Rattle.walk.specs.Refusals.{badLength, lengthPastSlice}
+use Rattle.usn_record.specs.Layout.{Layout, v2, v3}
+use Rattle.usn_record.specs.Fields.{timestampOf}
+use Rattle.usn_record.specs.Record.{parsed, recordWords, listed}
+use Rattle.known.specs.Case.{Case}
+use Rattle.known.specs.Bytes.{sliceOf, recordE}
+
+-- a FILETIME gives these seconds and nanoseconds
+abbrev pub time : ℤ → ℕ → ℕ → Case
+time filetime seconds nanoseconds =
+    record { says = timestampOf filetime .seconds ∷ timestampOf filetime .nanoseconds ∷ []; known = seconds ∷ nanoseconds ∷ [] }
+
+-- P2
+abbrev pub times : List Case
+times =
+    time (pos 116444735999999999) 0 0
+    ∷ time (pos 116444736000000000) 0 0
+    ∷ time (pos 9223372036854775807) 910692730085 477580700
+    ∷ time (negsuc 0) 0 0
+    ∷ []
+
+-- a slice of n bytes with this length field is answered so: a refusal's number, or 0 where it is accepted
+abbrev pub slice : Layout → ℕ → ℕ → ℕ → Case
+slice l n length answer = record { says = outcomeWords (λ r. []) (parsed l (sliceOf n length)); known = answer ∷ [] }
+
+-- P3
+abbrev pub slices : List Case
+slices =
+    slice v2 60 59 badLength
+    ∷ slice v2 60 60 0
+    ∷ slice v2 60 65536 lengthPastSlice
+    ∷ slice v2 60 65537 badLength
+    ∷ slice v3 76 65536 0
+    ∷ []
+
+-- the words of E: fields, time, reason, attributes, name, and what the original does not have
+abbrev pub wordsE : List ℕ
+wordsE = 0 ∷ 42 ∷ 3 ∷ 5 ∷ 5 ∷ 4096 ∷ 946684800 ∷ 0 ∷ 0x100 ∷ 0x20 ∷ 0 ∷ 0 ∷ 2 ∷ 60 ∷ 4 ∷ 64 ∷ 0 ∷ 125911584000000000 ∷ 0 ∷ 0 ∷ []
+
+abbrev pub fieldsE : List Case
+fieldsE =
+    record { says = outcomeWords recordWords (parsed v2 recordE); known = wordsE }
+    ∷ record { says = outcomeWords recordWords (listed recordE 0); known = wordsE }
+    ∷ []

@@ -1,0 +1,22 @@
+-- The answer goes out by its own equation.
+use borrow.Author.Needs.{needs}
+use denote.Ref.{now}
+use Rattle.usn_journal_reader.proofs.AnswerLaws.{out-same}
+use Rattle.usn_journal_reader.proofs.usn_parse_record_v2.Statement.{statement}
+use Rattle.usn_journal_reader.proofs.usn_parse_record_v2.Tie as tie
+
+parse-usn-record-v2-requires : tie.Need-parse-usn-record-v2-requires
+parse-usn-record-v2-requires c κs = search needs
+
+put-record-requires : tie.Need-put-record-requires
+put-record-requires c κs = search needs
+
+same-length : tie.Need-same-length
+same-length c = search needs
+
+returns : tie.Need-returns
+returns c = out-same (now (c .before .before .before .before .before .before .before .args .words)) (c .before .before .before .before .parse-usn-record-v2 .ensures) (c .before .before .put-record .ensures .0) (c .before .before .put-record .ensures .1)
+
+pub usn-parse-record-v2-spec : {M : Type 1} → statement M
+usn-parse-record-v2-spec =
+    tie.close (tie.spec parse-usn-record-v2-requires put-record-requires same-length returns)
