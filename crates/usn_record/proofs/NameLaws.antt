@@ -96,3 +96,25 @@ name-after-fixed s o i h = listed-lies s o i (λ a b. omega arith)
 pub name-before-end : (s : List ℕ) (o i : ℕ) → o + leAt 4 s o ≤ i → Apart (nameAt s o) i
 unfolding nameAt
 name-before-end s o i h = listed-lies s o i (λ a b. omega arith)
+
+-- a listed record's name lies in the record
+abbrev Inside : ℕ → Outcome UsnRecord → Type 0
+Inside n (refused m) = Unit {0}
+Inside n (answered r) = r .filename .offset + r .filename .length ≤ n
+
+parsed-inside : (s : List ℕ) (o n : ℕ) (l : Layout) → l .nameInRecord ≡ false → (x : Outcome UsnRecord) → parsed l (part s o n) ≡ x → Inside n (asListed x)
+parsed-inside s o n l k (refused m) e = tt
+parsed-inside s o n l k (answered r) e = rw (accepts l (part s o n) r e .1) (omega (arith, name-lies l (part s o n) .0, name-end s o n l k))
+
+listed-inside : (s : List ℕ) (o : ℕ) → Inside (leAt 4 s o) (listed s o)
+unfolding listed
+listed-inside s o =
+    let n = leAt 4 s o in
+    let P : Outcome UsnRecord → Type 0 = Inside n in
+    cond-cases P (ltb (length s) (o + 8)) (λ _. tt) λ _.
+    cond-cases P (ltb (length s) (o + n)) (λ _. tt) λ _.
+    cond-cases P (eqb (leAt 2 s (o + 4)) 2) (λ _. parsed-inside s o n v2 refl (parsed v2 (part s o n)) refl) λ _.
+    cond-cases P (eqb (leAt 2 s (o + 4)) 3) (λ _. parsed-inside s o n v3 refl (parsed v3 (part s o n)) refl) λ _. tt
+
+pub listed-name : (s : List ℕ) (o : ℕ) {r : UsnRecord} → answered r ≡ listed s o → r .filename .offset + r .filename .length ≤ leAt 4 s o
+listed-name s o e = rw (sym e) at (listed-inside s o)

@@ -21,6 +21,18 @@ lengthPastSlice = 4
 abbrev pub listFull : ℕ
 listFull = 5
 
+-- the numbers of a state cannot be those of one
+abbrev pub badState : ℕ
+badState = 9
+
+-- more bytes are given than are wanted
+abbrev pub tooManyBytes : ℕ
+tooManyBytes = 10
+
+-- a buffer has another length than it must
+abbrev pub badBuffer : ℕ
+badBuffer = 11
+
 -- a listed offset has no version 2 or 3 record that its parser accepts
 abbrev pub notARecord : ℕ
 notARecord = 12

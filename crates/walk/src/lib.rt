@@ -20,6 +20,12 @@ pub const BAD_LENGTH: u32 = 3;
 pub const LENGTH_PAST_SLICE: u32 = 4;
 // There are more results than the lent list takes.
 pub const LIST_FULL: u32 = 5;
+// The numbers of a state cannot be those of one.
+pub const BAD_STATE: u32 = 9;
+// More bytes are given than are wanted.
+pub const TOO_MANY_BYTES: u32 = 10;
+// A buffer has another length than it must.
+pub const BAD_BUFFER: u32 = 11;
 // A listed offset has no version 2 or 3 record that its parser accepts.
 pub const NOT_A_RECORD: u32 = 12;
 
@@ -49,6 +55,18 @@ pub fn put_words(list: &mut [u64], i: usize, words: &[u64])
     let mut k: usize = 0;
     while k < words.len() {
         list[i + k] = words[k];
+        k += 1;
+    }
+}
+
+// All of bytes into a lent buffer, from i on.
+pub fn put_bytes(buffer: &mut [u8], i: usize, bytes: &[u8])
+    requires { ⌜ i + length (now bytes) ≤ length (now buffer) ⌝ }
+    ensures { λ _. ⌜ now (buffer .exit) ≡ sets (now (buffer .entry)) i (now (bytes .entry)) ⌝ }
+{
+    let mut k: usize = 0;
+    while k < bytes.len() {
+        buffer[i + k] = bytes[k];
         k += 1;
     }
 }

@@ -1,0 +1,4 @@
+pub mod WindowLaws
+pub mod TurnLaws
+pub mod SearchLaws
+pub mod CallLaws
