@@ -1,0 +1,113 @@
+// One visit of the scan: what stands at an offset of an extract, and where to go on.
+ghost use mathlib.Core.Path.{_≡_};
+ghost use Prim.Native.Nat.{_+_, _≤_};
+ghost use lib.ListN.{length};
+ghost use Rattle.walk.specs.Places.{round8};
+ghost use Rattle.walk.specs.Refusals.{domain};
+ghost use Rattle.usn_record.specs.Record.{outcome, maxRecord};
+ghost use Rattle.usn_journal.specs.Scan.{visit};
+ghost use Rattle.usn_journal.specs.Step.{visitOf, parsedVisit};
+use usn_record::Parsed;
+use usn_record::bytes::le_u16;
+use usn_record::bytes::le_u32;
+use usn_record::parse_usn_record_v2;
+use usn_record::parse_usn_record_v3;
+
+// The smallest record of any version, and the fixed parts of versions 2 and 3.
+const USN_V4_MIN_SIZE: usize = 56;
+
+const USN_V2_MIN_SIZE: usize = 60;
+
+const USN_V3_MIN_SIZE: usize = 76;
+// The largest record.
+const USN_MAX_RECORD_SIZE: usize = 65536;
+
+// What a visit says: stop, go on at the next offset, or the place of a record and the offset past it. A version 4 record tracks
+// changed ranges and is a range.
+pub enum ScanStep {
+    Stop,
+    Move(usize),
+    Record {
+        offset: usize,
+        length: usize,
+        next: usize,
+    },
+    Range {
+        offset: usize,
+        length: usize,
+        next: usize,
+    },
+}
+
+// The visit at an offset. A record of version 2 or 3 is handed to its parser as the part that begins at its offset and is as long as its
+// length field; what is no record moves on a word of 8 bytes.
+pub fn scan_step(extract: &[u8], o: usize) -> ScanStep
+    requires { ⌜ length (now extract) ≤ domain ⌝ }
+    ensures { λ r. ⌜ visitOf r ≡ visit (now (extract .entry)) o ⌝ }
+{
+    let size = extract.len();
+    if size < 8 {
+        return ScanStep::Stop;
+    }
+    if size - 8 < o {
+        return ScanStep::Stop;
+    }
+    let length = le_u32(extract, o) as usize;
+    if length < USN_V4_MIN_SIZE {
+        return ScanStep::Move(o + 8);
+    }
+    if USN_MAX_RECORD_SIZE < length {
+        return ScanStep::Move(o + 8);
+    }
+    if size - o < length {
+        return ScanStep::Stop;
+    }
+    let e = o + length;
+    let version = le_u16(extract, o + 4);
+    match version {
+        2 => {
+            if length < USN_V2_MIN_SIZE {
+                ScanStep::Move(o + 8)
+            } else {
+                record_step(parse_usn_record_v2(&extract[o..e]), o, length)
+            }
+        }
+        3 => {
+            if length < USN_V3_MIN_SIZE {
+                ScanStep::Move(o + 8)
+            } else {
+                record_step(parse_usn_record_v3(&extract[o..e]), o, length)
+            }
+        }
+        4 => ScanStep::Range {
+            offset: o,
+            length,
+            next: past_record(o, length),
+        },
+        _ => ScanStep::Move(o + 8),
+    }
+}
+
+// The visit of a record of so many bytes, by what its parser says: a refused one is passed over.
+fn record_step(p: Parsed, offset: usize, length: usize) -> ScanStep
+    requires { ⌜ (offset ≤ domain) × (length ≤ maxRecord) ⌝ }
+    ensures { λ r. ⌜ visitOf r ≡ parsedVisit offset length (outcome p) ⌝ }
+{
+    let next = past_record(offset, length);
+    match p {
+        Parsed::Record(_) => ScanStep::Record {
+            offset,
+            length,
+            next,
+        },
+        Parsed::Refused(_) => ScanStep::Move(next),
+    }
+}
+
+// The offset past a record: its length is rounded up to 8.
+fn past_record(offset: usize, length: usize) -> usize
+    requires { ⌜ (offset ≤ domain) × (length ≤ maxRecord) ⌝ }
+    ensures { λ r. ⌜ r ≡ offset + round8 length ⌝ }
+{
+    offset + (length + 7) / 8 * 8
+}
