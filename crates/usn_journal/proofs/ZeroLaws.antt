@@ -2,7 +2,7 @@
 use Prim.Native.Nat.{ℕ, zero, suc, _+_, _*_, _^_, _≤_, _<_}
 use mathlib.Core.Path.{_≡_, refl, sym, _∙_}
 use mathlib.Core.List.{List, []}
-use native.Mathlib.Nat.{zero-mul}
+use native.Mathlib.Nat.{zero-mul, add-assoc}
 use native.Mathlib.Omega.{arith}
 use lib.Bits.{bitOr, bitAnd, or-add-and, and-le-l, and-le-r}
 use lib.ListN.{length, getD}
@@ -34,3 +34,19 @@ module _ (s : List ℕ) (o : ℕ) (h : o + 8 ≤ length s) where
 
   pub zero-passed : leAt 8 s o ≡ 0 → eventsFrom s (o + 8) ≡ eventsFrom s o
   zero-passed e = sym (left (visit s) (length s) (visit-forward s) o (go [] (o + 8)) (zero-word e) .0)
+
+-- four words of which none has a bit, as a, b, d and e were read
+pub four-passed : (s : List ℕ) (o : ℕ) {a b d e : ℕ} → o + 32 ≤ length s
+    → a ≡ leAt 8 s o → b ≡ leAt 8 s (o + 8) → d ≡ leAt 8 s (o + 16) → e ≡ leAt 8 s (o + 24)
+    → bitOr (bitOr a b) (bitOr d e) ≡ 0 → eventsFrom s (o + 32) ≡ eventsFrom s o
+four-passed s o {a} {b} {d} {e} h p q u v z =
+    let y = or-zero (bitOr a b) (bitOr d e) z in
+    let x = or-zero a b (y .0) in
+    let w = or-zero d e (y .1) in
+    on 24 (omega arith) (sym v ∙ w .1)
+    ∙ on 16 (omega arith) (sym u ∙ w .0)
+    ∙ on 8 (omega arith) (sym q ∙ x .1)
+    ∙ zero-passed s o (omega arith) (sym p ∙ x .0)
+  where
+    on : (k : ℕ) → o + k + 8 ≤ length s → leAt 8 s (o + k) ≡ 0 → eventsFrom s (o + (k + 8)) ≡ eventsFrom s (o + k)
+    on k i r = rw (← add-assoc o k 8) (zero-passed s (o + k) i r)

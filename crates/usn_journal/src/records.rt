@@ -8,6 +8,7 @@ ghost use Rattle.walk.specs.Lists.{flatten, overwrite, placeWords};
 ghost use Rattle.usn_journal.specs.Scan.{scanned};
 use crate::step::ScanStep;
 use crate::step::scan_step;
+use crate::zeros::skip_zeros;
 
 // Whether the records fit a list with room for so many. A record takes 64 bytes of the scan, so where the room is enough for any
 // extract of this length they are not counted.
@@ -34,7 +35,7 @@ fn count_records(extract: &[u8]) -> usize
                 return n;
             }
             ScanStep::Move(next) => {
-                o = next;
+                o = skip_zeros(extract, next);
             }
             ScanStep::Record {
                 offset: _,
@@ -70,7 +71,7 @@ pub fn write_records(extract: &[u8], list: &mut [usize]) -> usize
                 return i / 2;
             }
             ScanStep::Move(next) => {
-                o = next;
+                o = skip_zeros(extract, next);
             }
             ScanStep::Record {
                 offset,

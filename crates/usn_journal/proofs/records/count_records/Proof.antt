@@ -1,6 +1,6 @@
 -- The invariant: the records counted, with those that are met from o on, are all of them. The measure is what is left of the extract.
 use Prim.Native.Nat.{ℕ, _+_, _-_, _≤_}
-use mathlib.Core.Path.{_≡_, ap}
+use mathlib.Core.Path.{_≡_, ap, sym, _∙_}
 use native.Mathlib.Omega.{arith}
 use lib.ListN.{length}
 use borrow.Author.Needs.{needs}
@@ -31,11 +31,14 @@ returns c = let w = rest _ _ (c .enum-told .given .1) (c .before .before .scan-s
 enum-known-next : tie.Need-enum-known-next Inv-loop μ-loop
 enum-known-next c = search needs
 
+skip-zeros-requires : tie.Need-skip-zeros-requires Inv-loop μ-loop
+skip-zeros-requires c κs = search needs
+
 loop-less : tie.Need-loop-less Inv-loop μ-loop
-loop-less c = let w = rest _ _ (c .before .next .given .1) (c .before .before .before .scan-step .ensures) in omega arith
+loop-less c = let w = rest _ _ (c .before .before .next .given .1) (c .before .before .before .before .scan-step .ensures) in omega arith
 
 loop-again : tie.Need-loop-again Inv-loop μ-loop
-loop-again c = let w = rest _ _ (c .before .next .given .1) (c .before .before .before .scan-step .ensures) in omega (arith, ap length (ap recordPlaces (w .0)))
+loop-again c = let w = rest _ _ (c .before .before .next .given .1) (c .before .before .before .before .scan-step .ensures) in omega (arith, ap length (ap recordPlaces (w .0 ∙ sym (c .skip-zeros .ensures .1))))
 
 enum-known-next-2 : tie.Need-enum-known-next-2 Inv-loop μ-loop
 enum-known-next-2 c = search needs
@@ -69,6 +72,7 @@ count-records-spec =
     enum-told
     returns
     enum-known-next
+    skip-zeros-requires
     loop-less
     loop-again
     enum-known-next-2

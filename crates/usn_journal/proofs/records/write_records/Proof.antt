@@ -1,6 +1,6 @@
 -- The invariant: the records written, with those that are met from o on, are all of them. The measure is what is left of the extract.
 use Prim.Native.Nat.{_-_}
-use mathlib.Core.Path.{ap, refl}
+use mathlib.Core.Path.{refl, ap, sym, _∙_}
 use native.Mathlib.Omega.{arith}
 use lib.ListN.{length}
 use borrow.Author.Needs.{needs}
@@ -36,11 +36,14 @@ returns c = let w = ap recordPlaces (rest _ _ (c .enum-told .given .1) (c .befor
 enum-known-next : tie.Need-enum-known-next Inv-loop μ-loop
 enum-known-next c = search needs
 
+skip-zeros-requires : tie.Need-skip-zeros-requires Inv-loop μ-loop
+skip-zeros-requires c κs = search needs
+
 loop-less : tie.Need-loop-less Inv-loop μ-loop
-loop-less c = let w = rest _ _ (c .before .next .given .1) (c .before .before .before .scan-step .ensures) in omega arith
+loop-less c = let w = rest _ _ (c .before .before .next .given .1) (c .before .before .before .before .scan-step .ensures) in omega arith
 
 loop-again : tie.Need-loop-again Inv-loop μ-loop
-loop-again c = let w = rest _ _ (c .before .next .given .1) (c .before .before .before .scan-step .ensures) in writing-skip (c .before .before .before .before .loop .inv) (ap recordPlaces (w .0))
+loop-again c = let w = rest _ _ (c .before .before .next .given .1) (c .before .before .before .before .scan-step .ensures) in writing-skip (c .before .before .before .before .before .loop .inv) (ap recordPlaces (w .0 ∙ sym (c .skip-zeros .ensures .1)))
 
 enum-known-offset : tie.Need-enum-known-offset Inv-loop μ-loop
 enum-known-offset c = search needs
@@ -78,6 +81,7 @@ write-records-spec =
     same-length
     returns
     enum-known-next
+    skip-zeros-requires
     loop-less
     loop-again
     enum-known-offset
