@@ -1,5 +1,4 @@
--- Each place that the scan lists is a record of version 2 or 3 that lies inside the extract, as long as its length field says, and within
--- the domain its parser accepts it: it has been handed over exactly. Assumes nothing.
+-- Each listed place is a version 2 or 3 record inside the extract that its parser accepts, since it is handed over exactly. Assumes nothing.
 use Prim.Native.Nat.{ℕ, _+_, _-_, _≤_}
 use mathlib.Core.Path.{_≡_, refl, sym, ap, _∙_}
 use mathlib.Core.List.{List, [], _∷_}
@@ -11,7 +10,7 @@ use lib.Dec.{eqb}
 use Rattle.walk.specs.Outcome.{answered}
 use Rattle.walk.specs.Places.{part}
 use Rattle.walk.specs.Refusals.{domain}
-use Rattle.walk.specs.Walk.{Visit, walk, from}
+use Rattle.walk.specs.Walk.{from}
 use Rattle.walk.specs.declared.Place.{Place}
 use Rattle.walk.proofs.AgreeLaws.{part-lent}
 use Rattle.walk.proofs.WalkLaws.{All, Finds, walk-all}
@@ -20,8 +19,8 @@ use Rattle.usn_record.specs.Layout.{Layout, v2, v3}
 use Rattle.usn_record.specs.Record.{maxRecord, parsed, recordOf, listed}
 use Rattle.usn_record.specs.Names.{fixedOf}
 use Rattle.usn_record.proofs.RecordLaws.{Inside, v2-inside, v3-inside, part-accepted, listed-v2, listed-v3}
-use Rattle.usn_journal.specs.Scan.{Kind, end, word, usnRecord, rangeRecord, kindOf, Event, recorded, ranged, visitAs, visit, events, recordPlaces, scanned}
-use Rattle.usn_journal.proofs.ScanLaws.{KindShape, kind-shape}
+use Rattle.usn_journal.specs.Scan.{Kind, end, word, usnRecord, rangeRecord, Event, recorded, ranged, visitAs, visit, events, recordPlaces, scanned}
+use Rattle.usn_journal.proofs.ScanLaws.{kindAt, Shaped, shape-at}
 
 -- a record of version 2 or 3 stands at p
 pub record Recorded (s : List ℕ) (p : Place) : Type 0 where
@@ -47,7 +46,7 @@ all-map P Q f [] h = tt
 all-map P Q f (x ∷ xs) h = (f x (h .0), all-map P Q f xs (h .1))
 
 module _ (s : List ℕ) where
-  kind-recorded : (o : ℕ) (k : Kind) → KindShape (length s - o) (leAt 4 s o) (leAt 2 s (o + 4)) k → Finds (OfRecord (Recorded s)) (visitAs o (leAt 4 s o) k)
+  kind-recorded : (o : ℕ) (k : Kind) → Shaped s o k → Finds (OfRecord (Recorded s)) (visitAs o (leAt 4 s o) k)
   kind-recorded o end h = tt
   kind-recorded o word h = tt
   kind-recorded o usnRecord h = (
@@ -65,7 +64,7 @@ module _ (s : List ℕ) where
 
   visit-recorded : (o : ℕ) → Finds (OfRecord (Recorded s)) (visit s o)
   unfolding visit
-  visit-recorded o = kind-recorded o (kindOf (length s - o) (leAt 4 s o) (leAt 2 s (o + 4))) (kind-shape _ _ _)
+  visit-recorded o = kind-recorded o (kindAt s o) (shape-at s o)
 
   pub scan-recorded : All (Recorded s) (scanned s)
   unfolding scanned from
@@ -83,14 +82,20 @@ module _ (s : List ℕ) (small : length s ≤ domain) where
   -- what its parser says of the part that is lent
   lent : (l : Layout) → Inside l → (p : Place) → Recorded s p → l .fixed ≤ p .length
       → answered (recordOf l (part s (p .offset) (p .length))) ≡ parsed l (take (p .offset + p .length - p .offset) (drop (p .offset) s))
-  lent l i p r f = sym (part-accepted l i s (p .offset) (r .size) small (r .inside) f (r .most)) ∙ ap (parsed l) (sym (part-lent s (p .offset) (p .length)))
+  lent l i p r f =
+      sym (part-accepted l i s (p .offset) (r .size) small (r .inside) f (r .most))
+      ∙ ap (parsed l) (sym (part-lent s (p .offset) (p .length)))
 
   recorded-parses : (p : Place) → Recorded s p → Parses s p
   recorded-parses p r = go (r .version)
     where
       go : ((leAt 2 s (p .offset + 4) ≡ 2) ⊎ (leAt 2 s (p .offset + 4) ≡ 3)) → Parses s p
-      go (inl e) = rw e (sym (listed-v2 s (p .offset) (r .header) (r .size) (r .inside) (sym e) refl refl (lent v2 v2-inside p r (rw e at (r .fixed)))))
-      go (inr e) = rw e (sym (listed-v3 s (p .offset) (r .header) (r .size) (r .inside) (sym e) refl refl (lent v3 v3-inside p r (rw e at (r .fixed)))))
+      go (inl e) =
+          let w = lent v2 v2-inside p r (rw e at (r .fixed)) in
+          rw e (sym (listed-v2 s (p .offset) (r .header) (r .size) (r .inside) (sym e) refl refl w))
+      go (inr e) =
+          let w = lent v3 v3-inside p r (rw e at (r .fixed)) in
+          rw e (sym (listed-v3 s (p .offset) (r .header) (r .size) (r .inside) (sym e) refl refl w))
 
   -- the scan's parser refuses nothing that the scan hands it
   pub scan-parses : All (Parses s) (scanned s)

@@ -1,9 +1,7 @@
--- The whole outcome of a scan is the same in two runs whose extracts differ in the names of the listed records alone: an accepted scan by the
--- two runs of its list, and a refused one lists nothing, so that nothing differs. Assumes nothing.
+-- Two runs of the whole call: an accepted one by the two runs of its list; a refused one lists nothing, so that nothing differs. Assumes nothing.
 use Prim.Native.Nat.{ℕ, _/_}
 use mathlib.Core.Path.{_≡_, refl, ap, _∙_}
 use mathlib.Core.List.{List, []}
-use mathlib.Core.Bool.{cond}
 use lib.ListN.{length}
 use lib.Dec.{ltb, leb}
 use lib.Seq.{ext-getD}

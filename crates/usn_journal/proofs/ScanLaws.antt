@@ -1,15 +1,13 @@
--- What any visit of the scan is like, by what stands there: it goes forward, and a record takes 64 bytes of the walk. So the loops' turns,
--- a bound on the number of records, and what each listed place holds. Assumes nothing.
-use Prim.Native.Nat.{ℕ, zero, suc, _+_, _-_, _*_, _/_, _≤_, _<_}
+-- What any visit of the scan is like, by cases of what stands there: it goes forward, and a record takes 64 bytes of the walk. Assumes nothing.
+use Prim.Native.Nat.{ℕ, zero, suc, _+_, _-_, _*_, _≤_}
 use mathlib.Core.Path.{_≡_, refl, ap, sym, _∙_}
 use mathlib.Core.List.{List, [], _∷_, _++_}
 use mathlib.Core.Logic.{_⊎_, inl, inr}
-use mathlib.Core.Bool.{Bool, true, false, cond, _||_}
+use mathlib.Core.Bool.{_||_}
 use native.Mathlib.Omega.{arith}
 use lib.ListN.{length, length-append}
 use lib.Dec.{ltb, eqb}
-use borrow.Author.Tests.{ltb-true, ltb-false, eqb-true}
-use Rattle.walk.specs.Places.{round8}
+use borrow.Author.Tests.{ltb-false, eqb-true}
 use Rattle.walk.specs.Walk.{Visit, stop, go, after, walk, from}
 use Rattle.walk.specs.declared.Place.{Place}
 use Rattle.walk.proofs.ChoiceLaws.{cond-cases, or-left, or-right}
@@ -18,7 +16,7 @@ use Rattle.usn_record.specs.Bytes.{leAt}
 use Rattle.usn_record.specs.Layout.{v2, v3}
 use Rattle.usn_record.specs.Record.{maxRecord}
 use Rattle.usn_record.specs.Names.{fixedOf}
-use Rattle.usn_journal.specs.Scan.{Kind, end, word, usnRecord, rangeRecord, minRecord, kindByVersion, kindOf, Event, recorded, ranged, visitAs, visit, eventsFrom, events, recordPlaces, scanned}
+use Rattle.usn_journal.specs.Scan.{Kind, end, word, usnRecord, rangeRecord, minRecord, kindByVersion, kindOf, Event, recorded, ranged, visitAs, visit, recordPlaces, scanned}
 use Rattle.usn_journal.specs.Step.{visitOf}
 use Rattle.usn_journal.specs.declared.step.ScanStep.{ScanStep}
 
@@ -43,7 +41,7 @@ KindShape left n v usnRecord = Lies left n × Versioned n v
 KindShape left n v rangeRecord = Lies left n × (v ≡ 4)
 
 pub kind-shape : (left n v : ℕ) → KindShape left n v (kindOf left n v)
-unfolding kindOf
+unfolding kindOf kindByVersion
 kind-shape left n v =
     let P : Kind → Type 0 = KindShape left n v in
     cond-cases P (ltb left 8) (λ _. tt) λ a.
@@ -61,6 +59,16 @@ kind-shape left n v =
     (λ f. (lies, record { fixed = rw (eqb-true v 3 e) (ltb-false _ _ f); least = omega (arith, ltb-false n 76 f); version = inr (eqb-true v 3 e) }))) λ _.
     cond-cases P (eqb v 4) (λ e. (lies, eqb-true v 4 e)) (λ _. ltb-false _ _ a)
 
+-- what stands at o of an extract, and what is known of it
+abbrev pub kindAt : List ℕ → ℕ → Kind
+kindAt s o = kindOf (length s - o) (leAt 4 s o) (leAt 2 s (o + 4))
+
+abbrev pub Shaped : List ℕ → ℕ → Kind → Type 0
+Shaped s o = KindShape (length s - o) (leAt 4 s o) (leAt 2 s (o + 4))
+
+pub shape-at : (s : List ℕ) (o : ℕ) → Shaped s o (kindAt s o)
+shape-at s o = kind-shape _ _ _
+
 pub records-append : (es fs : List Event) → recordPlaces (es ++ fs) ≡ recordPlaces es ++ recordPlaces fs
 records-append [] fs = refl
 records-append (recorded p ∷ es) fs = ap (λ (ps : List Place). p ∷ ps) (records-append es fs)
@@ -72,26 +80,26 @@ RecordCosts top o stop = Unit {0}
 RecordCosts top o (go es p) = (o + 64 * length (recordPlaces es) ≤ p) × (p ≤ top)
 
 module _ (s : List ℕ) where
-  kind-forward : (o n v : ℕ) (k : Kind) → KindShape (length s - o) n v k → Forward (length s) o (visitAs o n k)
-  kind-forward o n v end h = tt
-  kind-forward o n v word h = omega arith
-  kind-forward o n v usnRecord h = omega arith
-  kind-forward o n v rangeRecord h = omega arith
+  kind-forward : (o : ℕ) (k : Kind) → Shaped s o k → Forward (length s) o (visitAs o (leAt 4 s o) k)
+  kind-forward o end h = tt
+  kind-forward o word h = omega arith
+  kind-forward o usnRecord h = omega arith
+  kind-forward o rangeRecord h = omega arith
 
-  kind-costs : (o n v : ℕ) (k : Kind) → KindShape (length s - o) n v k → RecordCosts (length s + 7) o (visitAs o n k)
-  kind-costs o n v end h = tt
-  kind-costs o n v word h = omega arith
-  kind-costs o n v usnRecord h = omega arith
-  kind-costs o n v rangeRecord h = omega arith
+  kind-costs : (o : ℕ) (k : Kind) → Shaped s o k → RecordCosts (length s + 7) o (visitAs o (leAt 4 s o) k)
+  kind-costs o end h = tt
+  kind-costs o word h = omega arith
+  kind-costs o usnRecord h = omega arith
+  kind-costs o rangeRecord h = omega arith
 
   -- a visit goes forward, and only inside the extract
   pub visit-forward : (o : ℕ) → Forward (length s) o (visit s o)
   unfolding visit
-  visit-forward o = kind-forward o (leAt 4 s o) (leAt 2 s (o + 4)) (kindOf (length s - o) (leAt 4 s o) (leAt 2 s (o + 4))) (kind-shape _ _ _)
+  visit-forward o = kind-forward o (kindAt s o) (shape-at s o)
 
   pub visit-costs : (o : ℕ) → RecordCosts (length s + 7) o (visit s o)
   unfolding visit
-  visit-costs o = kind-costs o (leAt 4 s o) (leAt 2 s (o + 4)) (kindOf (length s - o) (leAt 4 s o) (leAt 2 s (o + 4))) (kind-shape _ _ _)
+  visit-costs o = kind-costs o (kindAt s o) (shape-at s o)
 
   -- so the records take 64 bytes each of a walk that ends within 7 bytes of the end
   after-bound : (top o : ℕ) (f : ℕ → List Event) (v : Visit Event) → RecordCosts top o v → o ≤ top

@@ -1,13 +1,13 @@
--- Two scans of extracts that differ in the names of the first one's records alone come out the same: a visit reads 8 bytes, a record's
--- fields its fixed part, and every name that the walk meets from there on lies past them. Assumes nothing.
+-- Two scans of extracts that differ in listed names alone are the same: what is read at an offset lies before every name met from there on.
+-- Assumes nothing.
 use Prim.Native.Nat.{ℕ, zero, suc, _+_, _-_, _≤_, _<_}
-use mathlib.Core.Path.{_≡_, refl, sym, ap, _∙_}
+use mathlib.Core.Path.{_≡_, refl, ap}
 use mathlib.Core.List.{List, [], _∷_, _++_}
 use native.Mathlib.Omega.{arith}
-use lib.ListN.{length, getD}
+use lib.ListN.{length}
 use Rattle.walk.specs.Agree.{Agree}
 use Rattle.walk.specs.Masked.{Apart, Masked, placesOf}
-use Rattle.walk.specs.Walk.{Visit, stop, go, after, walk, from}
+use Rattle.walk.specs.Walk.{go, after, walk, from}
 use Rattle.walk.specs.declared.Place.{Place}
 use Rattle.walk.proofs.AgreeLaws.{agree-in}
 use Rattle.walk.proofs.MaskedLaws.{Same, Before, apart-append, walk-two-runs}
@@ -17,8 +17,8 @@ use Rattle.usn_record.specs.Record.{listed}
 use Rattle.usn_record.specs.Names.{fixedOf, nameAt}
 use Rattle.usn_record.proofs.ByteLaws.{read-agree}
 use Rattle.usn_record.proofs.NameLaws.{fixed-low, listed-agrees, name-after-fixed, name-before-end}
-use Rattle.usn_journal.specs.Scan.{Kind, end, word, usnRecord, rangeRecord, kindOf, Event, recorded, ranged, visitAs, visit, events, recordPlaces, scanned}
-use Rattle.usn_journal.proofs.ScanLaws.{KindShape, kind-shape, visit-forward}
+use Rattle.usn_journal.specs.Scan.{Kind, end, word, usnRecord, rangeRecord, Event, recorded, ranged, visitAs, visit, events, recordPlaces, scanned}
+use Rattle.usn_journal.proofs.ScanLaws.{kindAt, Shaped, shape-at, visit-forward}
 use Rattle.usn_journal.proofs.ListedLaws.{OfRecord, all-records}
 
 -- the name of what is met, past its fixed part: version 4 records have none
@@ -54,15 +54,8 @@ reach-low usnRecord v = fixed-low v
 reach-low rangeRecord v = omega arith
 
 module _ (s : List ℕ) where
-  -- what stands at an offset
-  abbrev kindAt : ℕ → Kind
-  kindAt o = kindOf (length s - o) (leAt 4 s o) (leAt 2 s (o + 4))
-
-  abbrev Shaped : ℕ → Kind → Type 0
-  Shaped o k = KindShape (length s - o) (leAt 4 s o) (leAt 2 s (o + 4)) k
-
   -- the names that a walk meets lie past the reach of its first visit
-  after-low : (o i : ℕ) (f : ℕ → List Event) (k : Kind) → Shaped o k → i < o + reach k (leAt 2 s (o + 4))
+  after-low : (o i : ℕ) (f : ℕ → List Event) (k : Kind) → Shaped s o k → i < o + reach k (leAt 2 s (o + 4))
       → ((p : ℕ) → i < p + 60 → Apart (placesOf (eventNames s) (f p)) i) → Apart (placesOf (eventNames s) (after (visitAs o (leAt 4 s o) k) f)) i
   after-low o i f end w h later = tt
   after-low o i f word w h later = later (o + 8) (omega arith)
@@ -73,14 +66,14 @@ module _ (s : List ℕ) where
   unfolding walk visit
   walk-low zero o i h = tt
   walk-low (suc k) o i h =
-      after-low o i (walk (visit s) k) (kindAt o) (kind-shape _ _ _) (omega (arith, reach-low (kindAt o) (leAt 2 s (o + 4)))) (λ p. walk-low k p i)
+      after-low o i (walk (visit s) k) (kindAt s o) (shape-at s o) (omega (arith, reach-low (kindAt s o) (leAt 2 s (o + 4)))) (λ p. walk-low k p i)
 
-  first-low : (k o i : ℕ) → i < o + reach (kindAt o) (leAt 2 s (o + 4)) → Apart (placesOf (eventNames s) (walk (visit s) (suc k) o)) i
+  first-low : (k o i : ℕ) → i < o + reach (kindAt s o) (leAt 2 s (o + 4)) → Apart (placesOf (eventNames s) (walk (visit s) (suc k) o)) i
   unfolding walk visit
-  first-low k o i h = after-low o i (walk (visit s) k) (kindAt o) (kind-shape _ _ _) h (λ p. walk-low k p i)
+  first-low k o i h = after-low o i (walk (visit s) k) (kindAt s o) (shape-at s o) h (λ p. walk-low k p i)
 
   -- the names of what a visit finds lie before the next offset
-  kind-before : (o : ℕ) (k : Kind) → Shaped o k → Before (eventNames s) (visitAs o (leAt 4 s o) k)
+  kind-before : (o : ℕ) (k : Kind) → Shaped s o k → Before (eventNames s) (visitAs o (leAt 4 s o) k)
   kind-before o end w = tt
   kind-before o word w = λ i h. tt
   kind-before o usnRecord w = λ i h. apart-append (nameAt s o) [] i (name-before-end s o i (omega arith)) tt
@@ -88,7 +81,7 @@ module _ (s : List ℕ) where
 
   visit-before : (o : ℕ) → Before (eventNames s) (visit s o)
   unfolding visit
-  visit-before o = kind-before o (kindAt o) (kind-shape _ _ _)
+  visit-before o = kind-before o (kindAt s o) (shape-at s o)
 
   forward-from : (o p : ℕ) (es : List Event) → visit s o ≡ go es p → o ≤ p
   forward-from o p es e = let w : Forward (length s) o (go es p) = rw e at (visit-forward s o) in omega arith

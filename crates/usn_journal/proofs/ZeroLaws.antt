@@ -1,16 +1,16 @@
 -- A word of zeros moves the scan on 8, since its length field is 0, so what is met past it is all that is met from it on. Assumes nothing.
-use Prim.Native.Nat.{ℕ, zero, suc, _+_, _*_, _^_, _≤_, _<_}
+use Prim.Native.Nat.{ℕ, zero, suc, _+_, _≤_, _<_}
 use mathlib.Core.Path.{_≡_, refl, sym, _∙_}
 use mathlib.Core.List.{List, []}
 use native.Mathlib.Nat.{zero-mul, add-assoc}
 use native.Mathlib.Omega.{arith}
-use lib.Bits.{bitOr, bitAnd, or-add-and, and-le-l, and-le-r}
+use lib.Bits.{bitOr, or-add-and, and-le-l, and-le-r}
 use lib.ListN.{length, getD}
 use Rattle.walk.specs.Walk.{go}
 use Rattle.walk.proofs.WalkLaws.{left}
 use Rattle.usn_record.specs.Bytes.{le, leAt}
 use Rattle.usn_record.proofs.ByteLaws.{read-inside, read-join}
-use Rattle.usn_journal.specs.Scan.{Event, visit, eventsFrom}
+use Rattle.usn_journal.specs.Scan.{visit, eventsFrom}
 use Rattle.usn_journal.proofs.StepLaws.{visit-short}
 use Rattle.usn_journal.proofs.ScanLaws.{visit-forward}
 

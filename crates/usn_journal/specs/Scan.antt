@@ -25,14 +25,14 @@ minRecord = 56
 
 -- a record of n bytes that lies inside the extract, by its version field v: 2 and 3 want their fixed part, and every number but 2, 3 and
 -- 4 is no record
-abbrev pub kindByVersion : ℕ → ℕ → Kind
+unfoldable pub kindByVersion : ℕ → ℕ → Kind
 kindByVersion n v =
     cond (eqb v 2) (cond (ltb n (v2 .fixed)) word usnRecord)
     (cond (eqb v 3) (cond (ltb n (v3 .fixed)) word usnRecord)
     (cond (eqb v 4) rangeRecord word))
 
--- what stands where `left` bytes are left, the length field is n and the version field v. A zero word has length 0, so it is among the
--- lengths below `minRecord`, which are words to move over: that is how zero words are passed.
+-- what stands where `left` bytes are left, the length field is n and the version field v. A zero word has length 0 and is so a word to
+-- move over, as any length that no record has: this is document 01's rule that zero words of 8 bytes are passed.
 unfoldable pub kindOf : ℕ → ℕ → ℕ → Kind
 kindOf left n v =
     cond (ltb left 8) end

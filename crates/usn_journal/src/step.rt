@@ -4,20 +4,21 @@ ghost use Prim.Native.Nat.{_+_, _≤_};
 ghost use lib.ListN.{length};
 ghost use Rattle.walk.specs.Places.{round8};
 ghost use Rattle.walk.specs.Refusals.{domain};
+ghost use Rattle.usn_record.specs.Bytes.{leAt};
 ghost use Rattle.usn_record.specs.Record.{outcome, maxRecord};
-ghost use Rattle.usn_journal.specs.Scan.{visit};
-ghost use Rattle.usn_journal.specs.Step.{visitOf, parsedVisit};
+ghost use Rattle.usn_journal.specs.Scan.{kindByVersion, visitAs, visit};
+ghost use Rattle.usn_journal.specs.Step.{Lying, visitOf, parsedVisit};
 use usn_record::Parsed;
 use usn_record::bytes::le_u16;
 use usn_record::bytes::le_u32;
 use usn_record::parse_usn_record_v2;
 use usn_record::parse_usn_record_v3;
 
-// The smallest record of any version, and the fixed parts of versions 2 and 3.
+// The smallest record of any version.
 const USN_V4_MIN_SIZE: usize = 56;
-
+// The fixed part of a version 2 record.
 const USN_V2_MIN_SIZE: usize = 60;
-
+// That of version 3.
 const USN_V3_MIN_SIZE: usize = 76;
 // The largest record.
 const USN_MAX_RECORD_SIZE: usize = 65536;
@@ -39,8 +40,8 @@ pub enum ScanStep {
     },
 }
 
-// The visit at an offset. A record of version 2 or 3 is handed to its parser as the part that begins at its offset and is as long as its
-// length field; what is no record moves on a word of 8 bytes.
+// The visit at an offset: no room for a header, or a length that passes the end, stops the scan; a length that no record has moves
+// on a word of 8 bytes, and so do zero words.
 pub fn scan_step(extract: &[u8], o: usize) -> ScanStep
     requires { ⌜ length (now extract) ≤ domain ⌝ }
     ensures { λ r. ⌜ visitOf r ≡ visit (now (extract .entry)) o ⌝ }
@@ -52,37 +53,46 @@ pub fn scan_step(extract: &[u8], o: usize) -> ScanStep
     if size - 8 < o {
         return ScanStep::Stop;
     }
-    let length = le_u32(extract, o) as usize;
-    if length < USN_V4_MIN_SIZE {
+    let n = le_u32(extract, o) as usize;
+    if n < USN_V4_MIN_SIZE {
         return ScanStep::Move(o + 8);
     }
-    if USN_MAX_RECORD_SIZE < length {
+    if USN_MAX_RECORD_SIZE < n {
         return ScanStep::Move(o + 8);
     }
-    if size - o < length {
+    if size - o < n {
         return ScanStep::Stop;
     }
-    let e = o + length;
+    version_step(extract, o, n)
+}
+
+// The visit of n bytes that lie inside, by the version: a version 2 or 3 record goes to its parser as the part that begins at its
+// offset and is as long as its length field, a version 4 record is a range, and anything else moves on 8.
+fn version_step(extract: &[u8], o: usize, n: usize) -> ScanStep
+    requires { ⌜ Lying (now extract) o n ⌝ }
+    ensures { λ r. ⌜ visitOf r ≡ visitAs o n (kindByVersion n (leAt 2 (now (extract .entry)) (o + 4))) ⌝ }
+{
+    let e = o + n;
     let version = le_u16(extract, o + 4);
     match version {
         2 => {
-            if length < USN_V2_MIN_SIZE {
+            if n < USN_V2_MIN_SIZE {
                 ScanStep::Move(o + 8)
             } else {
-                record_step(parse_usn_record_v2(&extract[o..e]), o, length)
+                record_step(parse_usn_record_v2(&extract[o..e]), o, n)
             }
         }
         3 => {
-            if length < USN_V3_MIN_SIZE {
+            if n < USN_V3_MIN_SIZE {
                 ScanStep::Move(o + 8)
             } else {
-                record_step(parse_usn_record_v3(&extract[o..e]), o, length)
+                record_step(parse_usn_record_v3(&extract[o..e]), o, n)
             }
         }
         4 => ScanStep::Range {
             offset: o,
-            length,
-            next: past_record(o, length),
+            length: n,
+            next: past_record(o, n),
         },
         _ => ScanStep::Move(o + 8),
     }
