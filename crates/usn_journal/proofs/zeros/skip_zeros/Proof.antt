@@ -1,0 +1,79 @@
+-- The invariant: what the scan meets from p on is what it meets from o on. The measure is what is left of the extract.
+use Prim.Native.Nat.{_-_, _≤_}
+use mathlib.Core.Path.{_≡_, refl, _∙_}
+use native.Mathlib.Omega.{arith}
+use lib.ListN.{length}
+use borrow.Author.Needs.{needs}
+use Rattle.usn_journal.specs.Scan.{eventsFrom}
+use Rattle.usn_journal.proofs.ZeroLaws.{four-passed}
+use Rattle.usn_journal.proofs.zeros.skip_zeros.Statement.{statement}
+use Rattle.usn_journal.proofs.zeros.skip_zeros.Tie as tie
+
+abbrev Inv-loop : tie.InvT-loop
+Inv-loop extract o size last p₀ p = (o ≤ p) × (eventsFrom extract p ≡ eventsFrom extract o)
+
+abbrev μ-loop : tie.MeasureT-loop
+μ-loop extract o size last p₀ p = length extract - p
+
+returns : tie.Need-returns Inv-loop μ-loop
+returns c = (omega arith, refl)
+
+loop-holds : tie.Need-loop-holds Inv-loop μ-loop
+loop-holds c = (omega arith, refl)
+
+le-u64-requires : tie.Need-le-u64-requires Inv-loop μ-loop
+le-u64-requires c κs = search needs
+
+add-le-u64 : tie.Need-add-le-u64 Inv-loop μ-loop
+add-le-u64 c = omega arith
+
+le-u64-requires-2 : tie.Need-le-u64-requires-2 Inv-loop μ-loop
+le-u64-requires-2 c κs = search needs
+
+add-le-u64-2 : tie.Need-add-le-u64-2 Inv-loop μ-loop
+add-le-u64-2 c = omega arith
+
+le-u64-requires-3 : tie.Need-le-u64-requires-3 Inv-loop μ-loop
+le-u64-requires-3 c κs = search needs
+
+add-le-u64-3 : tie.Need-add-le-u64-3 Inv-loop μ-loop
+add-le-u64-3 c = omega arith
+
+le-u64-requires-4 : tie.Need-le-u64-requires-4 Inv-loop μ-loop
+le-u64-requires-4 c κs = search needs
+
+returns-2 : tie.Need-returns-2 Inv-loop μ-loop
+returns-2 c = c .before .before .before .before .before .before .loop .inv
+
+add-p : tie.Need-add-p Inv-loop μ-loop
+add-p c = omega arith
+
+loop-less : tie.Need-loop-less Inv-loop μ-loop
+loop-less c = omega arith
+
+loop-again : tie.Need-loop-again Inv-loop μ-loop
+loop-again c = (omega arith, four-passed _ _ (omega arith) (c .before .before .before .before .le-u64 .ensures) (c .before .before .before .le-u642 .ensures) (c .before .before .le-u643 .ensures) (c .before .le-u644 .ensures) (c .if2 .left) ∙ c .before .before .before .before .before .before .loop .inv .1)
+
+returns-3 : tie.Need-returns-3 Inv-loop μ-loop
+returns-3 c = c .before .loop .inv
+
+pub skip-zeros-spec : {M : Type 1} → statement M
+skip-zeros-spec =
+    tie.close
+    (tie.spec
+    Inv-loop
+    μ-loop
+    returns
+    loop-holds
+    le-u64-requires
+    add-le-u64
+    le-u64-requires-2
+    add-le-u64-2
+    le-u64-requires-3
+    add-le-u64-3
+    le-u64-requires-4
+    returns-2
+    add-p
+    loop-less
+    loop-again
+    returns-3)

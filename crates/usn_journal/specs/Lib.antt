@@ -1,0 +1,3 @@
+pub mod Scan
+pub mod Outcome
+pub mod Step
