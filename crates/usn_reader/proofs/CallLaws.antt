@@ -40,7 +40,7 @@ module _ (w : UsnJournalReader) (n : ℕ) {k : ℕ} (e : k ≡ refusalOf w n) wh
         next-searches g q = q ∙ simp (sym e, z, h, sym f, g)
 
 -- storing nothing changes nothing
-sets-none : (b : List ℕ) (i : ℕ) (x : List ℕ) → length x ≡ 0 → b ≡ sets b i x
+pub sets-none : (b : List ℕ) (i : ℕ) (x : List ℕ) → length x ≡ 0 → b ≡ sets b i x
 sets-none b i [] e = refl
 sets-none b i (x ∷ xs) e = absurd (omega arith)
 

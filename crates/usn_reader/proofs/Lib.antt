@@ -2,3 +2,10 @@ pub mod WindowLaws
 pub mod TurnLaws
 pub mod SearchLaws
 pub mod CallLaws
+pub mod JournalLaws
+pub mod PlainLaws
+pub mod BufferLaws
+pub mod GiveLaws
+pub mod ComeLaws
+pub mod RunLaws
+pub mod ShortReads

@@ -72,7 +72,7 @@ onward-agree : (w : UsnJournalReader) (t : Turn) (f g : UsnJournalReader → Rea
 onward-agree w (Done x) f g s h = refl
 onward-agree w (Again v) f g s h = h v s
 
-closer : {w v : UsnJournalReader} → Moved w v → v .end - v .position < w .end - w .position
+pub closer : {w v : UsnJournalReader} → Moved w v → v .end - v .position < w .end - w .position
 closer m = rw (m .is) (omega (arith, m .room, m .least))
 
 module _ (r : Reads) where

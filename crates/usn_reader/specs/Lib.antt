@@ -1,3 +1,5 @@
 pub mod Window
 pub mod Rule
 pub mod Calls
+pub mod Journal
+pub mod Run

@@ -3,3 +3,4 @@ pub mod SignedLaws
 pub mod FieldLaws
 pub mod RecordLaws
 pub mod NameLaws
+pub mod ListedLaws

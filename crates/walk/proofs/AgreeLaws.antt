@@ -1,12 +1,12 @@
 -- Agreement of two byte lists on a range: smaller ranges, and parts. Assumes nothing.
 use Prim.Native.Nat.{ℕ, _+_, _-_, _≤_, _<_}
-use mathlib.Core.Path.{_≡_, refl}
+use mathlib.Core.Path.{_≡_, refl, sym, _∙_}
 use mathlib.Core.Bool.{Bool, true, false}
 use mathlib.Core.List.{List}
 use native.Mathlib.Nat.{add-sub-cancel-left}
 use native.Mathlib.Omega.{arith}
 use lib.ListN.{length, getD, take, drop, length-take, length-drop, List·getD-eq-default}
-use lib.Seq.{getD-take, getD-drop}
+use lib.Seq.{getD-take, getD-drop, ext-getD}
 use lib.Dec.{ltb}
 use borrow.Author.Tests.{ltb-true, ltb-false}
 use Rattle.walk.specs.Places.{part}
@@ -28,6 +28,14 @@ part-length s o n h = simp (length-take, length-drop) (omega arith)
 -- the part that code lends as &s[o..e] with e = o + n
 pub part-lent : (s : List ℕ) (o n : ℕ) → take (o + n - o) (drop o s) ≡ part s o n
 part-lent s o n = rw add-sub-cancel-left
+
+-- parts of two lists that have the same elements are the same
+pub part-same : (s t : List ℕ) (o p n : ℕ) → o + n ≤ length s → p + n ≤ length t → ((i : ℕ) → i < n → getD s (o + i) 0 ≡ getD t (p + i) 0)
+    → part s o n ≡ part t p n
+part-same s t o p n a b h =
+    let e : length (part s o n) ≡ n = part-length s o n a in
+    ext-getD 0 (part s o n) (part t p n) (e ∙ sym (part-length t p n b))
+    (λ i k. let l : i < n = omega arith in part-in s o n i l ∙ h i l ∙ sym (part-in t p n i l))
 
 -- lists that agree have parts that agree
 module _ {s t : List ℕ} {lo hi : ℕ} (o n m : ℕ) (a : Agree s t lo hi) (h : lo ≤ o) (k : o + m ≤ hi) where

@@ -1,9 +1,9 @@
 //! The calls of our library, `libusn_journal_reader.a`. Nothing checks these declarations against its source.
 //!
-//! Each call answers 0 and writes the 19 words of a record, or answers a refusal number and writes nothing. Slices pass
-//! as a pointer and a length. The calls ask nothing of their arguments, so the wrappers are safe for any slices.
+//! Each call answers 0 and writes the words of its answer, or answers a refusal number and writes nothing. Slices pass as
+//! a pointer and a length. The calls ask nothing of their arguments, so the wrappers are safe for any slices.
 
-/// The words that an accepted call writes, in this order. Signed fields are given by their 64 bits.
+/// The words of a record, in this order. Signed fields are given by their 64 bits.
 pub const FIELDS: [&str; 19] = [
     "mft_entry",
     "mft_sequence",
@@ -26,14 +26,47 @@ pub const FIELDS: [&str; 19] = [
     "parent_reference_high",
 ];
 
-/// How many words an accepted call writes.
+/// How many words a record has.
 pub const WORDS: usize = FIELDS.len();
 
 /// The word of a name's offset; its length in bytes is the next.
 pub const NAME: usize = 12;
 
+/// The words of a scan's answer.
+pub const SCAN_FIELDS: [&str; 1] = ["records"];
+
+/// The words of a carving's answer.
+pub const CARVING_FIELDS: [&str; 5] = [
+    "bytes_scanned",
+    "candidates_examined",
+    "records_carved",
+    "rejected_timestamp",
+    "rejected_structure",
+];
+
+/// The words of a window, in this order.
+pub const READER_FIELDS: [&str; 6] = ["start", "position", "end", "held", "total", "ended"];
+
+/// How many words a window has.
+pub const READER_WORDS: usize = READER_FIELDS.len();
+
+/// The first word of a window's answer: the end, the bytes that are wanted, or a record. Two words follow: from where and
+/// how many are wanted, or the record's offset in the stream and its length; the end has 0, 0.
+pub const END: u64 = 0;
+pub const WANTS: u64 = 1;
+pub const RECORD: u64 = 2;
+
+/// The words of a window's longest answer, a record's: the three and those of the record.
+pub const ANSWER_WORDS: usize = 3 + WORDS;
+
+/// The length that a window's buffer must have.
+pub const BUF_SIZE: usize = 65536;
+
 /// The largest slice that is read.
 pub const DOMAIN: usize = 1_073_741_824;
+
+/// The longest stream that a window reads.
+pub const STREAM_DOMAIN: u64 = 1_099_511_627_776;
 
 // The numbers of document 01's "Answers that refuse"; 0 is no refusal.
 pub const ACCEPTED: u32 = 0;
@@ -42,6 +75,9 @@ pub const TOO_SHORT: u32 = 2;
 pub const LENGTH_OUTSIDE: u32 = 3;
 pub const LENGTH_PAST_SLICE: u32 = 4;
 pub const NO_ROOM: u32 = 5;
+pub const BAD_NUMBERS: u32 = 9;
+pub const TOO_MANY_BYTES: u32 = 10;
+pub const BAD_BUFFER: u32 = 11;
 pub const NOT_LISTED: u32 = 12;
 
 mod declared {
@@ -56,6 +92,46 @@ mod declared {
             offset: usize,
             words: *mut u64,
             words_len: usize,
+        ) -> u32;
+
+        pub fn usn_parse_journal(
+            extract: *const u8,
+            extract_len: usize,
+            list: *mut usize,
+            list_len: usize,
+            out: *mut u64,
+            out_len: usize,
+        ) -> u32;
+
+        pub fn usn_carve_records(
+            extract: *const u8,
+            extract_len: usize,
+            list: *mut usize,
+            list_len: usize,
+            out: *mut u64,
+            out_len: usize,
+        ) -> u32;
+
+        pub fn usn_reader_new(total: u64, reader: *mut u64, reader_len: usize) -> u32;
+
+        pub fn usn_reader_next(
+            reader: *mut u64,
+            reader_len: usize,
+            buffer: *const u8,
+            buffer_len: usize,
+            out: *mut u64,
+            out_len: usize,
+        ) -> u32;
+
+        pub fn usn_reader_give(
+            reader: *mut u64,
+            reader_len: usize,
+            buffer: *mut u8,
+            buffer_len: usize,
+            bytes: *const u8,
+            bytes_len: usize,
+            out: *mut u64,
+            out_len: usize,
         ) -> u32;
     }
 }
@@ -76,4 +152,50 @@ pub fn usn_parse_record_v3(data: &[u8], words: &mut [u64]) -> u32 {
 pub fn usn_listed_record(data: &[u8], offset: usize, words: &mut [u64]) -> u32 {
     // SAFETY: as above.
     unsafe { declared::usn_listed_record(data.as_ptr(), data.len(), offset, words.as_mut_ptr(), words.len()) }
+}
+
+/// The places of an extract's records, two words of `list` each, offset and length; `out` takes the `SCAN_FIELDS`.
+pub fn usn_parse_journal(extract: &[u8], list: &mut [usize], out: &mut [u64]) -> u32 {
+    let (lists, words) = (list.as_mut_ptr(), out.as_mut_ptr());
+    // SAFETY: the slices are readable over their lengths, the mutable ones are writable, and none overlap.
+    unsafe { declared::usn_parse_journal(extract.as_ptr(), extract.len(), lists, list.len(), words, out.len()) }
+}
+
+/// The places of the records carved from an extract, as above; `out` takes the `CARVING_FIELDS`.
+pub fn usn_carve_records(extract: &[u8], list: &mut [usize], out: &mut [u64]) -> u32 {
+    let (lists, words) = (list.as_mut_ptr(), out.as_mut_ptr());
+    // SAFETY: as above.
+    unsafe { declared::usn_carve_records(extract.as_ptr(), extract.len(), lists, list.len(), words, out.len()) }
+}
+
+/// A window over a stream of `total` bytes; `reader` takes the `READER_FIELDS`.
+pub fn usn_reader_new(total: u64, reader: &mut [u64]) -> u32 {
+    // SAFETY: as above.
+    unsafe { declared::usn_reader_new(total, reader.as_mut_ptr(), reader.len()) }
+}
+
+/// The next record of a window, the bytes that it wants first, or the end, as words of `out`. A record's name's place
+/// counts from the start of the buffer.
+pub fn usn_reader_next(reader: &mut [u64], buffer: &[u8], out: &mut [u64]) -> u32 {
+    let (numbers, words) = (reader.as_mut_ptr(), out.as_mut_ptr());
+    // SAFETY: as above.
+    unsafe { declared::usn_reader_next(numbers, reader.len(), buffer.as_ptr(), buffer.len(), words, out.len()) }
+}
+
+/// Gives a window the next bytes of its stream, which go into the buffer; `out` takes what it still wants, or the end.
+pub fn usn_reader_give(reader: &mut [u64], buffer: &mut [u8], bytes: &[u8], out: &mut [u64]) -> u32 {
+    let (numbers, words) = (reader.as_mut_ptr(), out.as_mut_ptr());
+    // SAFETY: as above.
+    unsafe {
+        declared::usn_reader_give(
+            numbers,
+            reader.len(),
+            buffer.as_mut_ptr(),
+            buffer.len(),
+            bytes.as_ptr(),
+            bytes.len(),
+            words,
+            out.len(),
+        )
+    }
 }

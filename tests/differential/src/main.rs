@@ -6,6 +6,7 @@
 
 mod difference;
 mod error;
+mod journals;
 mod library;
 mod random;
 mod records;
@@ -56,7 +57,9 @@ fn main() -> ExitCode {
 /// Every subject in turn, up to the first difference.
 fn compare(run: &Run) -> Outcome {
     records::parsers::run(run)?;
-    records::listed::run(run)
+    records::listed::run(run)?;
+    journals::scan::run(run)?;
+    journals::carver::run(run)
 }
 
 /// The command line; nothing where it is not understood.

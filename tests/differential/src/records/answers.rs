@@ -69,8 +69,7 @@ impl Answer {
     fn against_record(&self, record: &UsnRecord, layout: &Layout, part: &[u8]) -> Option<String> {
         self.against_number(ACCEPTED)
             .or_else(|| self.written_from(WORDS))
-            .or_else(|| self.against_text(&record.filename, part))
-            .or_else(|| self.against_words(&words_of(record, layout, part)))
+            .or_else(|| words_against_record(&self.words[..WORDS], record, layout, part))
     }
 
     fn against_number(&self, expected: u32) -> Option<String> {
@@ -83,29 +82,42 @@ impl Answer {
         Some(format!("word {at} is written"))
     }
 
-    fn against_text(&self, filename: &str, part: &[u8]) -> Option<String> {
-        let text = text_at(part, self.words[NAME], self.words[NAME + 1]);
-        match text {
-            None => Some("the name's place lies outside the slice or is odd".to_string()),
-            Some(text) => (text != filename).then(|| format!("the name reads {text:?}")),
-        }
-    }
-
-    fn against_words(&self, expected: &[u64; WORDS]) -> Option<String> {
-        let at = (0..WORDS).find(|&at| self.words[at] != expected[at])?;
-        let (ours, expected) = (self.words[at], expected[at]);
-        Some(format!("{} is {ours}, not {expected}", FIELDS[at]))
-    }
-
     fn shown(&self) -> String {
         if self.number != ACCEPTED {
             return format!("refusal {}", self.number);
         }
-        let fields: Vec<String> = (0..WORDS)
-            .map(|at| format!("{} {}", FIELDS[at], self.words[at]))
-            .collect();
-        fields.join(", ")
+        named(&FIELDS, &self.words)
     }
+}
+
+/// The first thing in which the words of a record are not those of the Rust's, which was read from `part`.
+fn words_against_record(words: &[u64], record: &UsnRecord, layout: &Layout, part: &[u8]) -> Option<String> {
+    against_text(words, &record.filename, part).or_else(|| against_words(words, &words_of(record, layout, part)))
+}
+
+/// The first thing in which the name's place in `words`, counted from the start of `bytes`, is not that of the name.
+pub fn against_text(words: &[u64], filename: &str, bytes: &[u8]) -> Option<String> {
+    match text_at(bytes, words[NAME], words[NAME + 1]) {
+        None => Some("the name's place lies outside the slice or is odd".to_string()),
+        Some(text) => (text != filename).then(|| format!("the name reads {text:?}")),
+    }
+}
+
+/// The first of a record's words that is not as expected.
+pub fn against_words(words: &[u64], expected: &[u64; WORDS]) -> Option<String> {
+    let at = (0..WORDS).find(|&at| words[at] != expected[at])?;
+    let (ours, expected) = (words[at], expected[at]);
+    Some(format!("{} is {ours}, not {expected}", FIELDS[at]))
+}
+
+/// Words with their names, as far as both go.
+pub fn named(names: &[&str], words: &[u64]) -> String {
+    let shown: Vec<String> = names
+        .iter()
+        .zip(words)
+        .map(|(name, word)| format!("{name} {word}"))
+        .collect();
+    shown.join(", ")
 }
 
 /// Calls a parser on `data`, lending `lent` words.
@@ -121,7 +133,9 @@ pub fn compare_parser(parser: &Parser, data: &[u8], lent: usize) -> Result<(), F
         (expected, Ok(_)) => Some(format!("document 01 refuses with {expected} what the Rust accepts")),
         (expected, Err(_)) => ours.against_refusal(expected),
     };
-    finding(what, &rust, &ours, || format!("{}, {lent} words lent", parser.call))
+    finding(what, rust.as_ref(), &ours, || {
+        format!("{}, {lent} words lent", parser.call)
+    })
 }
 
 /// Calls for the record at `offset` of an extract, lending `lent` words.
@@ -133,15 +147,33 @@ pub fn compare_listed(data: &[u8], offset: usize, lent: usize) -> Result<(), Fin
         Ok(_) if lent < WORDS => ours.against_refusal(NO_ROOM),
         Ok((parser, part, record)) => ours.against_record(record, parser.layout, part),
     };
-    let rust = rust.map(|(_, _, record)| record);
-    finding(what, &rust, &ours, || {
+    let rust = rust.as_ref().map(|(_, _, record)| record);
+    finding(what, rust, &ours, || {
         format!("usn_listed_record, offset {offset}, {lent} words lent")
+    })
+}
+
+/// Holds a record that a reader of the Rust gave to its place in an extract: the Rust's parser finds the same record there,
+/// and so does our call for the record at that offset.
+pub fn compare_given(data: &[u8], offset: usize, given: &UsnRecord) -> Result<(), Finding> {
+    let ours = Answer::of(WORDS, |words| library::usn_listed_record(data, offset, words));
+    let what = match listed_by_rust(data, offset) {
+        Err(why) => Some(format!("the Rust's parser refuses the record: {why}")),
+        Ok((parser, part, record)) => {
+            let words = words_of(&record, parser.layout, part);
+            words_against_record(&words, given, parser.layout, part)
+                .map(|what| format!("by the Rust's parser, {what}"))
+                .or_else(|| ours.against_record(given, parser.layout, part))
+        }
+    };
+    finding(what, Ok::<_, &String>(given), &ours, || {
+        format!("usn_listed_record, offset {offset}, of a record that the Rust gave")
     })
 }
 
 fn finding<E: std::fmt::Display>(
     what: Option<String>,
-    rust: &Result<UsnRecord, E>,
+    rust: Result<&UsnRecord, &E>,
     ours: &Answer,
     call: impl FnOnce() -> String,
 ) -> Result<(), Finding> {
@@ -178,7 +210,7 @@ fn refusal(layout: &Layout, data: &[u8]) -> u32 {
 
 /// What the Rust's parsers make of a listed record: the one for its version, handed the part of the extract that begins
 /// at `offset` and is as long as the length field says. The record comes with that parser and that part.
-fn listed_by_rust(data: &[u8], offset: usize) -> Result<(&'static Parser, &[u8], UsnRecord), String> {
+pub fn listed_by_rust(data: &[u8], offset: usize) -> Result<(&'static Parser, &[u8], UsnRecord), String> {
     let rest = data.get(offset..).unwrap_or_default();
     if rest.len() < 8 {
         return Err("fewer than 8 bytes left".to_string());
@@ -195,7 +227,7 @@ fn listed_by_rust(data: &[u8], offset: usize) -> Result<(&'static Parser, &[u8],
 }
 
 /// The words of the Rust's record. What it lacks, and the name's place, is read from the bytes.
-fn words_of(record: &UsnRecord, layout: &Layout, part: &[u8]) -> [u64; WORDS] {
+pub fn words_of(record: &UsnRecord, layout: &Layout, part: &[u8]) -> [u64; WORDS] {
     let (name_offset, name_length) = name_place(layout, part);
     let high = |reference: usize| match layout.reference {
         16 => number(part, reference + 8, 8),

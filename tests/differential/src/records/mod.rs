@@ -1,12 +1,12 @@
 //! Records: `usn/record.rs` of the original against the library's record calls. The subjects are `parsers`, the two
 //! parsers on a slice, and `listed`, a record of an extract taken by its offset.
 
-mod answers;
-mod cases;
-mod edges;
-mod layout;
 mod listed_edges;
 
+pub mod answers;
+pub mod cases;
+pub mod edges;
+pub mod layout;
 pub mod listed;
 pub mod parsers;
 pub mod sample;

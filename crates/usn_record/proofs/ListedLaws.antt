@@ -1,0 +1,75 @@
+-- The record at an offset: the same bytes elsewhere hold the same record, and what is read of it is its fixed part where it is accepted and
+-- its first 8 bytes where it is not. Assumes nothing.
+use Prim.Native.Nat.{ℕ, _+_, _≤_, _<_}
+use mathlib.Core.Path.{_≡_, refl, sym, ap, _∙_}
+use mathlib.Core.List.{List}
+use mathlib.Core.Bool.{Bool, true, false, cond, _&&_, _||_}
+use native.Mathlib.Omega.{arith}
+use lib.ListN.{length}
+use lib.Dec.{ltb, eqb}
+use borrow.Author.Tests.{le-ltb}
+use Rattle.walk.specs.Outcome.{Outcome, refused, answered}
+use Rattle.walk.specs.Places.{part}
+use Rattle.walk.specs.Agree.{Agree}
+use Rattle.walk.specs.Refusals.{domain}
+use Rattle.walk.proofs.ChoiceLaws.{cond-two}
+use Rattle.walk.proofs.AgreeLaws.{agree-part}
+use Rattle.usn_record.specs.Bytes.{leAt}
+use Rattle.usn_record.specs.Layout.{Layout, v2, v3}
+use Rattle.usn_record.specs.Record.{maxRecord, recordOf, parsed, asListed, listed}
+use Rattle.usn_record.specs.Names.{fixedOf}
+use Rattle.usn_record.specs.declared.UsnRecord.{UsnRecord}
+use Rattle.usn_record.proofs.ByteLaws.{read-agree}
+use Rattle.usn_record.proofs.NameLaws.{listed-agrees}
+
+-- the same n bytes at o of s and at p of t
+pub listed-moved : (s t : List ℕ) (o p : ℕ) {n : ℕ} → n ≡ leAt 4 s o → n ≡ leAt 4 t p → leAt 2 s (o + 4) ≡ leAt 2 t (p + 4)
+    → o + 8 ≤ length s → p + 8 ≤ length t → o + n ≤ length s → p + n ≤ length t → part s o n ≡ part t p n → listed s o ≡ listed t p
+unfolding listed
+listed-moved s t o p e f v a b c d q = simp (sym e, sym f, v, le-ltb _ _ a, le-ltb _ _ b, le-ltb _ _ c, le-ltb _ _ d, q)
+
+-- how much of a record is read, by its version and what is said of it
+abbrev pub reachOf : ℕ → Outcome UsnRecord → ℕ
+reachOf version (refused m) = 8
+reachOf version (answered r) = fixedOf version
+
+never : {r : UsnRecord} {m : ℕ} → _≡_ {A = Outcome UsnRecord} (answered r) (refused m) → ⊥
+never e = let z : _≡_ {A = ℕ} 0 1 = cc in omega arith
+
+-- a slice that is refused is refused by its length and its length field
+parsed-refused : (l : Layout) {s t : List ℕ} {m : ℕ} → Agree s t 0 8 → parsed l s ≡ refused m → parsed l t ≡ parsed l s
+unfolding parsed
+parsed-refused l {s} {t} {m} a =
+    let x : leAt 4 t 0 ≡ leAt 4 s 0 = read-agree 4 0 a (omega arith) (omega arith) in
+    let R : Outcome UsnRecord → Outcome UsnRecord → Type 0 = λ p q. p ≡ refused m → q ≡ p in
+    rw (a .long, x)
+    (cond-two R (ltb domain (length s)) (λ _ _. refl) λ _.
+    cond-two R (ltb (length s) (l .fixed)) (λ _ _. refl) λ _.
+    cond-two R (ltb (leAt 4 s 0) (l .fixed) || ltb maxRecord (leAt 4 s 0)) (λ _ _. refl) λ _.
+    cond-two R (l .lengthInSlice && ltb (length s) (leAt 4 s 0)) (λ _ _. refl) λ _ e. absurd (never e))
+
+as-refused : (l : Layout) {s t : List ℕ} {m : ℕ} → Agree s t 0 8 → (x : Outcome UsnRecord) → parsed l s ≡ x → asListed x ≡ refused m → parsed l t ≡ x
+as-refused l a (refused k) e h = parsed-refused l a e ∙ e
+as-refused l a (answered r) e h = absurd (never h)
+
+listed-refused : {s t : List ℕ} (o : ℕ) {m : ℕ} → Agree s t o (o + 8) → listed s o ≡ refused m → listed t o ≡ listed s o
+unfolding listed
+listed-refused {s} {t} o {m} a =
+    let version = leAt 2 s (o + 4) in
+    let n = leAt 4 s o in
+    let x : leAt 4 t o ≡ n = read-agree 4 o a (omega arith) (omega arith) in
+    let y : leAt 2 t (o + 4) ≡ version = read-agree 2 (o + 4) a (omega arith) (omega arith) in
+    let b : Agree (part s o n) (part t o n) 0 8 = agree-part o n 8 a (omega arith) (omega arith) in
+    let R : Outcome UsnRecord → Outcome UsnRecord → Type 0 = λ p q. p ≡ refused m → q ≡ p in
+    rw (a .long, x, y)
+    (cond-two R (ltb (length s) (o + 8)) (λ _ _. refl) λ _.
+    cond-two R (ltb (length s) (o + n)) (λ _ _. refl) λ _.
+    cond-two R (eqb version 2) (λ _ h. ap asListed (as-refused v2 b (parsed v2 (part s o n)) refl h)) λ _.
+    cond-two R (eqb version 3) (λ _ h. ap asListed (as-refused v3 b (parsed v3 (part s o n)) refl h)) λ _ _. refl)
+
+listed-by : {s t : List ℕ} (o : ℕ) (x : Outcome UsnRecord) → listed s o ≡ x → Agree s t o (o + reachOf (leAt 2 s (o + 4)) x) → listed t o ≡ listed s o
+listed-by o (refused m) e a = listed-refused o a e
+listed-by o (answered r) e a = listed-agrees o a
+
+pub listed-reads : {s t : List ℕ} (o : ℕ) → Agree s t o (o + reachOf (leAt 2 s (o + 4)) (listed s o)) → listed t o ≡ listed s o
+listed-reads {s} o a = listed-by o (listed s o) refl a
