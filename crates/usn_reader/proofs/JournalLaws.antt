@@ -54,9 +54,10 @@ module _ (s : List ℕ) (p e : ℕ) (st : Steady s p e) where
   -- a refill with the position kept
   falls-refill : (n : ℕ) → n ≤ windowSize → e < p + n → Falls s p e (refillTo (length s) p e p)
   falls-refill n a h =
-      cond-cases (Falls s p e) (eqb e (length s)) (λ _. tt) λ d.
-      (record { inside = omega arith; near = omega (arith, st .near, st .inside) },
-      omega (arith, left-start s p, left-other s p e (λ q. eqb-false e (length s) d (omega arith))))
+      cond-cases (Falls s p e) (eqb e (length s)) (λ _. tt) λ d. (
+        record { inside = omega arith; near = omega (arith, st .near, st .inside) },
+        omega (arith, left-start s p, left-other s p e (λ q. eqb-false e (length s) d (omega arith))),
+      )
 
   falls-on : (q : ℕ) → p + 8 ≤ e → p + 8 ≤ q → q ≤ e + 7 → (ps : List Place) → Falls s p e (onto ps q e)
   falls-on q a b d ps = (record { inside = st .inside; near = d }, omega (arith, left-most s q e, left-least s p e, st .inside))

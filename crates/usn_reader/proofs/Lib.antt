@@ -7,5 +7,7 @@ pub mod PlainLaws
 pub mod BufferLaws
 pub mod GiveLaws
 pub mod ComeLaws
+pub mod ReadLaws
 pub mod RunLaws
 pub mod ShortReads
+pub mod TwoRuns

@@ -96,7 +96,6 @@ module _ (s : List ℕ) (w : UsnJournalReader) (ov : Over s w) where
       (λ _. (λ e. absurd (wants-end e), q)))
       (λ _. not-end refused-end q)
 
-
 -- a giving that is accepted passed the window's own tests
 refusal-of : (n k : ℕ) (w : UsnJournalReader) → giveRefusal n k w ≡ 0 → refusalOf w n ≡ 0
 unfolding giveRefusal
@@ -117,9 +116,10 @@ module _ (s : List ℕ) where
   journal-goes next st ov e k = let g = next-goes s (st .window) ov windowSize in (g .0, λ _. g .1)
   journal-goes (give x) st ov e k = (give-goes s (st .window) ov windowSize (length x), λ g. give-quiet s (st .window) ov windowSize (length x) (rw e at g))
   journal-goes (nextOther b) st ov e k = let g = next-goes s (st .window) ov (length b) in (g .0, λ _. g .1)
-  journal-goes (giveOther b x) st ov e k =
-      (give-goes s (st .window) ov (length b) (length x),
-      λ _. give-quiet s (st .window) ov (length b) (length x) (λ r. absurd (other (st .window) (length b) k (refusal-of (length b) (length x) (st .window) r))))
+  journal-goes (giveOther b x) st ov e k = (
+    give-goes s (st .window) ov (length b) (length x),
+    λ _. give-quiet s (st .window) ov (length b) (length x) (λ r. absurd (other (st .window) (length b) k (refusal-of (length b) (length x) (st .window) r))),
+  )
 
   -- and with its buffer
   call-goes : (c : Call) (st : State) → Holds st → Carries s c st
@@ -136,11 +136,12 @@ module _ (s : List ℕ) where
   run-goes [] st h k = (refl, tt)
   run-goes (c ∷ cs) st h k =
       let g = call-goes c st h (k .0) in
-      let ih = run-goes cs (stateAfter c st) (g .2) (k .1) in
-      (append-assoc (placeOf (readingOf c st .answer)) (givenBy (readings cs (stateAfter c st))) (coming s (reached cs (stateAfter c st) .window))
-      ∙ ap (λ (l : List Place). placeOf (readingOf c st .answer) ++ l) (ih .0)
-      ∙ sym (g .0 .whole),
-      (g .0 .tells, ih .1))
+      let ih = run-goes cs (stateAfter c st) (g .2) (k .1) in (
+        append-assoc (placeOf (readingOf c st .answer)) (givenBy (readings cs (stateAfter c st))) (coming s (reached cs (stateAfter c st) .window))
+            ∙ ap (λ (l : List Place). placeOf (readingOf c st .answer) ++ l) (ih .0)
+            ∙ sym (g .0 .whole),
+        (g .0 .tells, ih .1),
+      )
 
   -- and nothing is to come after an end, unless an empty giving ended the reading
   run-ends : (cs : List Call) (st : State) → Holds st → AllCarry s cs st → AllGo cs st → Quiet s (st .window)
@@ -152,9 +153,10 @@ module _ (s : List ℕ) where
       (e .0, run-ends cs (stateAfter c st) (g .2) (k .1) (o .1) (e .1))
 
   fresh-holds : (b : List ℕ) → length b ≡ windowSize → Holds (freshOver s b)
-  fresh-holds b e =
-      (record { size = e; total = refl; bytes = λ i h. absurd (omega arith) },
-      record { total = refl; steady = record { inside = omega arith; near = omega arith } })
+  fresh-holds b e = (
+    record { size = e; total = refl; bytes = λ i h. absurd (omega arith) },
+    record { total = refl; steady = record { inside = omega arith; near = omega arith } },
+  )
 
   pub short-reads : (b : List ℕ) → length b ≡ windowSize → (cs : List Call) → AllCarry s cs (freshOver s b)
       → (givenBy (readings cs (freshOver s b)) ++ coming s (reached cs (freshOver s b) .window) ≡ windowList s)

@@ -5,14 +5,14 @@ use mathlib.Core.Path.{_≡_, refl, sym, ap, _∙_}
 use mathlib.Core.List.{List}
 use mathlib.Core.Bool.{Bool, true, false, cond, _&&_, _||_}
 use native.Mathlib.Omega.{arith}
-use lib.ListN.{length}
+use lib.ListN.{length, length-take}
 use lib.Dec.{ltb, eqb}
 use borrow.Author.Tests.{le-ltb}
 use Rattle.walk.specs.Outcome.{Outcome, refused, answered}
 use Rattle.walk.specs.Places.{part}
 use Rattle.walk.specs.Agree.{Agree}
 use Rattle.walk.specs.Refusals.{domain}
-use Rattle.walk.proofs.ChoiceLaws.{cond-two}
+use Rattle.walk.proofs.ChoiceLaws.{cond-cases, cond-two}
 use Rattle.walk.proofs.AgreeLaws.{agree-part}
 use Rattle.usn_record.specs.Bytes.{leAt}
 use Rattle.usn_record.specs.Layout.{Layout, v2, v3}
@@ -20,6 +20,7 @@ use Rattle.usn_record.specs.Record.{maxRecord, recordOf, parsed, asListe
 use Rattle.usn_record.specs.Names.{fixedOf}
 use Rattle.usn_record.specs.declared.UsnRecord.{UsnRecord}
 use Rattle.usn_record.proofs.ByteLaws.{read-agree}
+use Rattle.usn_record.proofs.RecordLaws.{Accepts, accepts}
 use Rattle.usn_record.proofs.NameLaws.{listed-agrees}
 
 -- the same n bytes at o of s and at p of t
@@ -73,3 +74,27 @@ listed-by o (answered r) e a = listed-agrees o a
 
 pub listed-reads : {s t : List ℕ} (o : ℕ) → Agree s t o (o + reachOf (leAt 2 s (o + 4)) (listed s o)) → listed t o ≡ listed s o
 listed-reads {s} o a = listed-by o (listed s o) refl a
+
+-- an accepted record has room for its version's fixed part
+abbrev Fixed : ℕ → ℕ → Outcome UsnRecord → Type 0
+Fixed n version (refused m) = Unit {0}
+Fixed n version (answered r) = fixedOf version ≤ n
+
+parsed-fixed : (s : List ℕ) (o n : ℕ) (l : Layout) (version : ℕ) → fixedOf version ≡ l .fixed → (x : Outcome UsnRecord) → parsed l (part s o n) ≡ x
+    → Fixed n version (asListed x)
+parsed-fixed s o n l version e (refused m) q = tt
+parsed-fixed s o n l version e (answered r) q = let a = accepts l (part s o n) r q .0 in rw e (omega (arith, simp length-take at (a .whole)))
+
+listed-has : (s : List ℕ) (o : ℕ) → Fixed (leAt 4 s o) (leAt 2 s (o + 4)) (listed s o)
+unfolding listed
+listed-has s o =
+    let n = leAt 4 s o in
+    let v = leAt 2 s (o + 4) in
+    let P : Outcome UsnRecord → Type 0 = Fixed n v in
+    cond-cases P (ltb (length s) (o + 8)) (λ _. tt) λ _.
+    cond-cases P (ltb (length s) (o + n)) (λ _. tt) λ _.
+    cond-cases P (eqb v 2) (λ e. parsed-fixed s o n v2 v (rw e) (parsed v2 (part s o n)) refl) λ e.
+    cond-cases P (eqb v 3) (λ _. parsed-fixed s o n v3 v (rw e) (parsed v3 (part s o n)) refl) λ _. tt
+
+pub listed-fixed : (s : List ℕ) (o : ℕ) {r : UsnRecord} → listed s o ≡ answered r → fixedOf (leAt 2 s (o + 4)) ≤ leAt 4 s o
+listed-fixed s o e = rw e at (listed-has s o)
