@@ -6,9 +6,10 @@ use Rattle.walk.specs.Outcome.{outcomeWords}
 use Rattle.walk.specs.Refusals.{badLength, lengthPastSlice}
 use Rattle.usn_record.specs.Layout.{Layout, v2, v3}
 use Rattle.usn_record.specs.Fields.{timestampOf}
+use Rattle.usn_record.specs.Sample.{recordE}
 use Rattle.usn_record.specs.Record.{parsed, recordWords, listed}
 use Rattle.known.specs.Case.{Case}
-use Rattle.known.specs.Bytes.{sliceOf, recordE}
+use Rattle.known.specs.Bytes.{sliceOf}
 
 -- a FILETIME gives these seconds and nanoseconds
 abbrev pub time : ℤ → ℕ → ℕ → Case

@@ -11,3 +11,4 @@ pub mod ReadLaws
 pub mod RunLaws
 pub mod ShortReads
 pub mod TwoRuns
+pub mod Examples

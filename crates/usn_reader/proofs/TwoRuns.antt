@@ -104,7 +104,7 @@ module _ (s t : List ℕ) where
         all-append (λ (y : Place). listed t (y .offset) ≡ listed s (y .offset)) (placeOf (x .answer)) later (own-same (x .answer) (w .position) (x .reader .position) g a) (r .1),
       )
 
-fresh-filled : (s b : List ℕ) → length b ≡ windowSize → Filled s b (freshOver s b .window)
+pub fresh-filled : (s b : List ℕ) → length b ≡ windowSize → Filled s b (freshOver s b .window)
 fresh-filled s b e = record { size = e; total = refl; bytes = λ i h. absurd (omega arith) }
 
 -- both runs from a fresh window of the journal's length, each over a buffer of its own, with calls of one shape whose accepted givings carry

@@ -3,3 +3,4 @@ pub mod Layout
 pub mod Fields
 pub mod Record
 pub mod Names
+pub mod Sample

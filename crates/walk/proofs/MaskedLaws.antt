@@ -1,12 +1,16 @@
 -- Two runs of one walk over byte lists that differ in places alone: where each visit comes out the same as long as the lists agree from its
 -- offset on outside the places of what is found from there on, the walks are the same. Assumes nothing.
-use Prim.Native.Nat.{ℕ, zero, suc, _+_, _≤_, _<_}
-use mathlib.Core.Path.{_≡_, refl, ap, _∙_}
+use Prim.Native.Nat.{ℕ, zero, suc, _+_, _-_, _≤_, _<_}
+use mathlib.Core.Path.{_≡_, refl, sym, ap, _∙_}
 use mathlib.Core.List.{List, [], _∷_, _++_}
 use native.Mathlib.Omega.{arith}
-use lib.ListN.{length, getD}
+use mathlib.Core.Bool.{Bool, true, false}
+use lib.ListN.{length, getD, length-append, List·getD-append}
+use lib.Seq.{getD-append-add}
+use lib.Dec.{ltb}
+use borrow.Author.Tests.{ltb-true, ltb-false}
 use Rattle.walk.specs.Walk.{Visit, stop, go, after, walk}
-use Rattle.walk.specs.Masked.{Within, Apart, placesOf}
+use Rattle.walk.specs.Masked.{Within, Apart, Masked, placesOf}
 use Rattle.walk.specs.declared.Place.{Place}
 use Rattle.walk.proofs.WalkLaws.{All, Finds, all-append}
 
@@ -57,3 +61,27 @@ module _ {A : Type 0} (s t : List ℕ) (places : A → List Place) (visit visit�
   walk-two-runs (suc k) o fi m =
       let q = reads k o fi m in
       rw (q .0) (turn o (visit o) (walk visit k) (walk visit′ k) refl (before o) (q .1) fi m (walk-two-runs k))
+
+-- lists that differ in the middle alone are masked there
+module _ (a x y b : List ℕ) (long : length y ≡ length x) where
+  past : (i : ℕ) → (z : List ℕ) → length a + length z ≤ i → getD (a ++ (z ++ b)) i 0 ≡ getD b (i - (length a + length z)) 0
+  past i z h =
+      let j = i - (length a + length z) in
+      let e : i ≡ length a + (length z + j) = omega arith in
+      ap (λ (k : ℕ). getD (a ++ (z ++ b)) k 0) e ∙ getD-append-add a (z ++ b) (length z + j) 0 ∙ getD-append-add z b j 0
+
+  same : (i : ℕ) → Apart (record { offset = length a; length = length x } ∷ []) i → (t u : Bool) → ltb i (length a) ≡ t → ltb i (length a + length x) ≡ u
+      → getD (a ++ (y ++ b)) i 0 ≡ getD (a ++ (x ++ b)) i 0
+  same i h true u e f = List·getD-append a (y ++ b) 0 i (ltb-true _ _ e) ∙ sym (List·getD-append a (x ++ b) 0 i (ltb-true _ _ e))
+  same i h false true e f = absurd (h .0 (record { from = ltb-false _ _ e; to = ltb-true _ _ f }))
+  same i h false false e f =
+      past i y (omega (arith, ltb-false i (length a + length x) f))
+      ∙ ap (λ (k : ℕ). getD b (i - (length a + k)) 0) long
+      ∙ sym (past i x (ltb-false _ _ f))
+
+  pub masked-middle : Masked (a ++ (x ++ b)) (a ++ (y ++ b)) (record { offset = length a; length = length x } ∷ [])
+  masked-middle =
+      record {
+        long = simp (length-append, long);
+        same = λ i h. same i h (ltb i (length a)) (ltb i (length a + length x)) refl refl;
+      }

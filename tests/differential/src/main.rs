@@ -11,6 +11,7 @@ mod library;
 mod random;
 mod records;
 mod usn;
+mod window;
 
 include!(concat!(env!("OUT_DIR"), "/original.rs"));
 
@@ -59,7 +60,8 @@ fn compare(run: &Run) -> Outcome {
     records::parsers::run(run)?;
     records::listed::run(run)?;
     journals::scan::run(run)?;
-    journals::carver::run(run)
+    journals::carver::run(run)?;
+    window::run(run)
 }
 
 /// The command line; nothing where it is not understood.

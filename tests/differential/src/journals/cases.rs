@@ -13,7 +13,22 @@ const PIECES: usize = 24;
 const LONGEST_NAME: usize = 30;
 
 /// The lengths at which a reader decides.
-const LENGTHS: [usize; 14] = [0, 8, 48, 55, 56, 59, 60, 61, 75, 76, 77, LARGEST - 1, LARGEST, LARGEST + 1];
+const LENGTHS: [usize; 14] = [
+    0,
+    8,
+    48,
+    55,
+    56,
+    59,
+    60,
+    61,
+    75,
+    76,
+    77,
+    LARGEST - 1,
+    LARGEST,
+    LARGEST + 1,
+];
 
 /// Fills `bytes` with a journal; gives its kind.
 pub fn fill(random: &mut Random, bytes: &mut Vec<u8>) -> &'static str {

@@ -152,7 +152,15 @@ fn cuts(inputs: &mut Vec<Input>) {
     let mut odd = example(&V2);
     put(&mut odd, 0, 4, 61);
     put(&mut odd, V2.name_length, 2, 1);
-    let parts = [odd, vec![0; 24], example(&V3), range, unknown, example(&V2), example(&V3)];
+    let parts = [
+        odd,
+        vec![0; 24],
+        example(&V3),
+        range,
+        unknown,
+        example(&V2),
+        example(&V3),
+    ];
     let whole = parts.concat();
     for end in 0..=whole.len() {
         inputs.push(Input {

@@ -87,7 +87,11 @@ impl Answer {
         };
         let expected = |at| listed(at).unwrap_or(untouched(at) as usize);
         if let Some(at) = (0..self.list.len()).find(|&at| self.list[at] != expected(at)) {
-            return Some(format!("word {at} of the list is {}, not {}", self.list[at], expected(at)));
+            return Some(format!(
+                "word {at} of the list is {}, not {}",
+                self.list[at],
+                expected(at)
+            ));
         }
         let expected = |at| words.get(at).copied().unwrap_or(untouched(at));
         let at = (0..self.out.len()).find(|&at| self.out[at] != expected(at))?;
@@ -130,7 +134,10 @@ fn compare_ours(lister: &Lister, data: &[u8], walk: &Walk, lent: &[Lent]) -> Res
         };
         if let Some(what) = what {
             return Err(Finding {
-                call: format!("{}, {} words of list and {} of answer lent", lister.call, lent.list, lent.out),
+                call: format!(
+                    "{}, {} words of list and {} of answer lent",
+                    lister.call, lent.list, lent.out
+                ),
                 what,
                 rust: walk.shown(lister.fields),
                 ours: ours.shown(lister.fields),
@@ -166,7 +173,9 @@ impl Walk {
             });
         }
         let given = offsets.iter().zip(&rust.records);
-        given.map(|(&offset, record)| compare_given(data, offset, record)).collect()
+        given
+            .map(|(&offset, record)| compare_given(data, offset, record))
+            .collect()
     }
 }
 
@@ -182,7 +191,15 @@ fn compare(lister: &Lister, data: &[u8], lent: impl FnOnce(usize) -> Vec<Lent>) 
 /// no extract of this length could fill them; and answers of too few words, just enough and more.
 fn every_lent(lister: &Lister, length: usize, records: usize) -> Vec<Lent> {
     let (words, full) = (lister.fields.len(), 2 * records);
-    let lists = [0, full.saturating_sub(2), full.saturating_sub(1), full, full + 1, full + 2, length / 28 + 2];
+    let lists = [
+        0,
+        full.saturating_sub(2),
+        full.saturating_sub(1),
+        full,
+        full + 1,
+        full + 2,
+        length / 28 + 2,
+    ];
     let mut lent: Vec<Lent> = lists.into_iter().map(|list| Lent { list, out: words }).collect();
     for out in [0, words - 1, words + 1, words + 3] {
         lent.extend([full.saturating_sub(1), full].map(|list| Lent { list, out }));
@@ -262,7 +279,10 @@ fn compare_known(lister: &Lister, known: &Known) -> Result<(), Finding> {
     }
     Err(Finding {
         call: lister.call.to_string(),
-        what: format!("document 01 names the offsets {:?} and the words {:?}", named.offsets, named.words),
+        what: format!(
+            "document 01 names the offsets {:?} and the words {:?}",
+            named.offsets, named.words
+        ),
         rust: walk.shown(lister.fields),
         ours: "as the Rust".to_string(),
     })

@@ -32,6 +32,9 @@ fn run(lister: &Lister, run: &Run) -> Outcome {
         listing::random_case(lister, (run.seed, number), kind, &bytes, &mut random)?;
         total += bytes.len();
     }
-    println!("{subject}: {cases} cases, {total} bytes, seed {}, no difference", run.seed);
+    println!(
+        "{subject}: {cases} cases, {total} bytes, seed {}, no difference",
+        run.seed
+    );
     Ok(())
 }

@@ -100,8 +100,10 @@ fn candidate(data: &[u8], place: Place) -> Option<Candidate> {
     let name_length = number(record, layout.name_length, 2) as usize;
     let name_offset = number(record, layout.name_offset, 2) as usize;
     let time = number(record, layout.filetime, 8) as i64;
-    let sound =
-        name_offset == layout.fixed && name_offset + name_length <= place.length && name_length > 0 && name_length % 2 == 0;
+    let sound = name_offset == layout.fixed
+        && name_offset + name_length <= place.length
+        && name_length > 0
+        && name_length % 2 == 0;
     Some(match (sound, (FIRST_TIME..=LAST_TIME).contains(&time)) {
         (false, _) => Candidate::RejectedStructure,
         (true, false) => Candidate::RejectedTimestamp,

@@ -8,6 +8,7 @@ use crate::library::{RECORD, TOO_MANY_BYTES};
 use crate::records::answers::{against_text, against_words, listed_by_rust, named, words_of};
 use crate::records::layout::Layout;
 use crate::usn::UsnRecord;
+use std::fmt::Debug;
 
 /// How many words of window and of answer, and how many bytes of buffer, a call is lent.
 #[derive(Debug, Clone, Copy)]
@@ -61,15 +62,16 @@ impl Pair {
     pub fn renew(&mut self, total: u64, lent: usize) -> Result<(), Finding> {
         let before = self.numbers();
         let number = library::usn_reader_new(total, &mut self.reader[..lent]);
-        let answered = match lent < READER_WORDS {
-            true => Err(NO_ROOM),
-            false => {
-                self.model = Model::new(total);
-                Ok(Answer::End)
-            }
+        let answered = if lent < READER_WORDS {
+            Err(NO_ROOM)
+        } else {
+            self.model = Model::new(total);
+            Ok("a new window")
         };
         let what = against_number(number, &answered).or_else(|| self.against_reader(&answered, before));
-        self.found(what, &answered, || format!("usn_reader_new, total {total}, {lent} words lent"))
+        self.found(what, &answered, || {
+            format!("usn_reader_new, total {total}, {lent} words lent")
+        })
     }
 
     /// Gives both windows these numbers.
@@ -127,7 +129,13 @@ impl Pair {
             Ok(_) if self.wanted() > 0 => self.against_buffer(held.saturating_sub(BEHIND), held + bytes.len() + BEHIND),
             _ => self.against_buffer(0, self.buffer.len()),
         });
-        let call = || format!("{} and {} bytes", shown_call("usn_reader_give", lent, before), bytes.len());
+        let call = || {
+            format!(
+                "{} and {} bytes",
+                shown_call("usn_reader_give", lent, before),
+                bytes.len()
+            )
+        };
         self.found(what, &answered, call)?;
         Ok(answered)
     }
@@ -148,7 +156,7 @@ impl Pair {
     }
 
     /// The first of our window's words that is not as document 01's window, or not as before where the call is refused.
-    fn against_reader(&self, answered: &Answered, before: [u64; READER_WORDS]) -> Option<String> {
+    fn against_reader<T>(&self, answered: &Result<T, u32>, before: [u64; READER_WORDS]) -> Option<String> {
         let numbers = match answered {
             Ok(_) => self.model.words(),
             Err(_) => before,
@@ -169,8 +177,11 @@ impl Pair {
         let mut end = 3;
         if let Ok(Answer::Record(place)) = answered {
             let at = place.offset - self.model.start as usize;
-            let (parser, part, record) = listed_by_rust(&self.expected, at).ok()?;
-            if let Some(what) = self.against_record(&record, parser.layout, part, at) {
+            let what = match listed_by_rust(&self.expected, at) {
+                Err(why) => Some(format!("it refuses the record: {why}")),
+                Ok((parser, part, record)) => self.against_record(&record, parser.layout, part, at),
+            };
+            if let Some(what) = what {
                 return Some(format!("by the Rust's parser, {what}"));
             }
             end = ANSWER_WORDS;
@@ -190,7 +201,13 @@ impl Pair {
     }
 
     /// Holds our answer to the record that the Rust's reader gave, which was read from `part` at `offset` of the stream.
-    pub fn compare_record(&self, record: &UsnRecord, layout: &Layout, part: &[u8], offset: usize) -> Result<(), Finding> {
+    pub fn compare_record(
+        &self,
+        record: &UsnRecord,
+        layout: &Layout,
+        part: &[u8],
+        offset: usize,
+    ) -> Result<(), Finding> {
         let Some(what) = self.against_record(record, layout, part, offset - self.model.start as usize) else {
             return Ok(());
         };
@@ -213,7 +230,7 @@ impl Pair {
         Some(format!("byte {at} of the buffer is {ours}, not {expected}"))
     }
 
-    fn found(&self, what: Option<String>, answered: &Answered, call: impl FnOnce() -> String) -> Result<(), Finding> {
+    fn found(&self, what: Option<String>, answered: &impl Debug, call: impl FnOnce() -> String) -> Result<(), Finding> {
         let Some(what) = what else { return Ok(()) };
         let window = named(&READER_FIELDS, &self.model.words());
         Err(Finding {
@@ -236,8 +253,8 @@ impl Pair {
     }
 }
 
-fn against_number(number: u32, answered: &Answered) -> Option<String> {
-    let expected = answered.err().unwrap_or(ACCEPTED);
+fn against_number<T>(number: u32, answered: &Result<T, u32>) -> Option<String> {
+    let expected = answered.as_ref().err().copied().unwrap_or(ACCEPTED);
     (number != expected).then(|| format!("the answer is {number}, not {expected}"))
 }
 

@@ -2,7 +2,7 @@
 //! document, apart from our library; it reads the buffer that our library is lent.
 
 use crate::journals::walks::{layout_at, length_at, Place};
-use crate::library::{ACCEPTED, ABOVE_DOMAIN, BAD_BUFFER, BAD_NUMBERS, BUF_SIZE, READER_WORDS, STREAM_DOMAIN};
+use crate::library::{ABOVE_DOMAIN, ACCEPTED, BAD_BUFFER, BAD_NUMBERS, BUF_SIZE, READER_WORDS, STREAM_DOMAIN};
 use crate::library::{END, RECORD, WANTS};
 use crate::records::layout::LARGEST;
 

@@ -1,0 +1,37 @@
+-- A sample record, for worked examples.
+use Prim.Native.Nat.{ℕ, _+_, _*_, _^_}
+use mathlib.Core.List.{List, [], _∷_, _++_}
+use lib.ListN.{length}
+use Rattle.usn_record.specs.Bytes.{leBytes}
+
+-- a file reference of 8 bytes
+abbrev pub reference : ℕ → ℕ → List ℕ
+reference entry sequence = leBytes 8 (entry + sequence * 2 ^ 48)
+
+-- the first 8 bytes of a record: its length, its major version, and minor version 0
+abbrev pub header : ℕ → ℕ → List ℕ
+header n version = leBytes 4 n ++ (leBytes 2 version ++ leBytes 2 0)
+
+-- the fixed part of a version 2 record of n bytes: file 42:3 in folder 5:5, USN 4096, created at a FILETIME, with a name of so many bytes at
+-- an offset
+abbrev pub sampleFixed : ℕ → ℕ → ℕ → ℕ → List ℕ
+sampleFixed n time nameLength nameOffset =
+    header n 2
+    ++ (reference 42 3
+    ++ (reference 5 5
+    ++ (leBytes 8 4096
+    ++ (leBytes 8 time
+    ++ (leBytes 4 0x100
+    ++ (leBytes 4 0
+    ++ (leBytes 4 0
+    ++ (leBytes 4 0x20
+    ++ (leBytes 2 nameLength
+    ++ leBytes 2 nameOffset)))))))))
+
+-- that record with a name of two units
+abbrev pub sampleRecord : ℕ → ℕ → List ℕ
+sampleRecord a b = sampleFixed 64 125911584000000000 4 60 ++ (leBytes 2 a ++ leBytes 2 b)
+
+-- and named ab
+abbrev pub recordE : List ℕ
+recordE = sampleRecord 0x61 0x62
