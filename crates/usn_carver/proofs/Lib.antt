@@ -1,0 +1,5 @@
+pub mod TimeLaws
+pub mod VisitLaws
+pub mod RunLaws
+pub mod FillLaws
+pub mod CallLaws

@@ -1,0 +1,4 @@
+pub mod Settings
+pub mod Events
+pub mod Carve
+pub mod Masking

@@ -1,0 +1,99 @@
+// The loops over an extract: one that fills a lent list and counts, and one that asks whether the list has room.
+ghost use mathlib.Core.Path.{_≡_};
+ghost use Prim.Native.Nat.{_/_, _≤_};
+ghost use lib.ListN.{length};
+ghost use lib.Dec.{leb};
+ghost use Rattle.walk.specs.Lists.{flatten, placeWords, overwrite};
+ghost use Rattle.usn_carver.specs.Settings.{settingsOf};
+ghost use Rattle.usn_carver.specs.Events.{records, statsOf};
+ghost use Rattle.usn_carver.specs.Carve.{events};
+use crate::CarvingStats;
+use crate::step::CarveStep;
+use crate::step::carve_step;
+
+// Whether the records to be carved are no more than room. None is counted where room is enough for any extract so long: a
+// carved record takes 64 bytes, of which the last may lack 4.
+pub fn has_room(extract: &[u8], room: usize, lower: u64, upper: u64, largest: usize) -> bool
+    ensures { λ r. ⌜ r ≡ leb (length (records (events (settingsOf lower upper largest) (now (extract .entry))))) room ⌝ }
+{
+    if (extract.len() + 4) / 64 <= room {
+        return true;
+    }
+    count_records(extract, lower, upper, largest) <= room
+}
+
+// How many records are carved.
+fn count_records(extract: &[u8], lower: u64, upper: u64, largest: usize) -> usize
+    ensures { λ r. ⌜ r ≡ length (records (events (settingsOf lower upper largest) (now (extract .entry)))) ⌝ }
+{
+    let mut n: usize = 0;
+    let mut o: usize = 0;
+    loop {
+        match carve_step(extract, o, lower, upper, largest) {
+            CarveStep::Stop => {
+                return n;
+            }
+            CarveStep::Zero(next)
+            | CarveStep::Move(next)
+            | CarveStep::BadStructure(_, next)
+            | CarveStep::BadTime(_, next) => {
+                o = next;
+            }
+            CarveStep::Carved(_, _, next) => {
+                n += 1;
+                o = next;
+            }
+        }
+    }
+}
+
+// The carved records into the list, and the counters of the run.
+pub fn fill_list(
+    extract: &[u8],
+    list: &mut [usize],
+    lower: u64,
+    upper: u64,
+    largest: usize,
+) -> CarvingStats
+    requires { ⌜ length (records (events (settingsOf lower upper largest) (now extract))) ≤ length (now list) / 2 ⌝ }
+    ensures { λ r. ⌜ r ≡ statsOf (length (now (extract .entry))) (events (settingsOf lower upper largest) (now (extract .entry))) ⌝ }
+    ensures { λ _. ⌜ now (list .exit) ≡ overwrite (now (list .entry)) (flatten placeWords (records (events (settingsOf lower upper largest) (now (extract .entry))))) ⌝ }
+{
+    let mut candidates: u64 = 0;
+    let mut structure: u64 = 0;
+    let mut time: u64 = 0;
+    let mut i: usize = 0;
+    let mut o: usize = 0;
+    loop {
+        match carve_step(extract, o, lower, upper, largest) {
+            CarveStep::Stop => {
+                return CarvingStats {
+                    bytes_scanned: extract.len(),
+                    candidates_examined: candidates,
+                    records_carved: i / 2,
+                    rejected_timestamp: time,
+                    rejected_structure: structure,
+                };
+            }
+            CarveStep::Zero(next) | CarveStep::Move(next) => {
+                o = next;
+            }
+            CarveStep::BadStructure(_, next) => {
+                candidates += 1;
+                structure += 1;
+                o = next;
+            }
+            CarveStep::BadTime(_, next) => {
+                candidates += 1;
+                time += 1;
+                o = next;
+            }
+            CarveStep::Carved(_, size, next) => {
+                walk::put_pair(list, i, o, size);
+                candidates += 1;
+                i += 2;
+                o = next;
+            }
+        }
+    }
+}
