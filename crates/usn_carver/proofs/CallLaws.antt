@@ -33,3 +33,8 @@ module _ (st : Settings) (s l : List ℕ) where
   pub list-filled : {x : CarvingStats} {l′ : List ℕ} → answered x ≡ carving st s (length l) → l′ ≡ overwrite l (flatten placeWords (records (events st s)))
       → l′ ≡ listAfterCarving st s l
   list-filled e f = rw (← e) f
+
+-- runs with the same events come out the same
+pub outcome-agrees : (st : Settings) (s t : List ℕ) (words : ℕ) → length t ≡ length s → events st t ≡ events st s → carving st t words ≡ carving st s words
+unfolding carving
+outcome-agrees st s t words long e = rw (e, long)

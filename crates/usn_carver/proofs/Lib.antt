@@ -3,3 +3,6 @@ pub mod VisitLaws
 pub mod RunLaws
 pub mod FillLaws
 pub mod CallLaws
+pub mod RecordLaws
+pub mod ReadLaws
+pub mod TwoRunLaws
