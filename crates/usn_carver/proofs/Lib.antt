@@ -6,3 +6,4 @@ pub mod CallLaws
 pub mod RecordLaws
 pub mod ReadLaws
 pub mod TwoRunLaws
+pub mod Examples
