@@ -1,6 +1,6 @@
--- The loop that fills the list and counts: what it has done, with what is left from its offset on, is the whole. Assumes nothing.
+-- The loops over an extract: what was counted and written, with what is left from the offset on, is the whole. Assumes nothing.
 use Prim.Native.Nat.{ℕ, _+_, _/_, _≤_}
-use mathlib.Core.Path.{_≡_, refl, ap}
+use mathlib.Core.Path.{_≡_, refl, ap, sym}
 use mathlib.Core.List.{List, [], _∷_}
 use native.Mathlib.Omega.{arith}
 use lib.ListN.{length}
@@ -12,7 +12,20 @@ use Rattle.walk.proofs.WalkLaws.{Left}
 use Rattle.usn_carver.specs.Settings.{Settings}
 use Rattle.usn_carver.specs.Events.{structure, time, Event, rejected, carved, records, structures, times, statsOf}
 use Rattle.usn_carver.specs.Carve.{visit, eventsFrom, events}
+use Rattle.usn_carver.specs.Skip.{Skips}
 use Rattle.usn_carver.specs.declared.CarvingStats.{CarvingStats}
+
+-- So many records were met before o.
+pub record Counting (st : Settings) (s : List ℕ) (n o : ℕ) : Type 0 where
+  pub carved : n + length (records (eventsFrom st s o)) ≡ length (records (events st s))
+  pub near : n ≤ o
+
+-- equal events have equally many records
+pub counted : {es fs : List Event} → es ≡ fs → length (records es) ≡ length (records fs)
+counted e = ap (λ (xs : List Event). length (records xs)) e
+
+pub counting-skip : {st : Settings} {s : List ℕ} {n o : ℕ} (p : ℕ) → Skips s o p → Counting st s n o → Counting st s n p
+counting-skip {st} p k f = record { carved = rw (k .same st) (f .carved); near = omega (arith, f .near, k .forward) }
 
 -- The list was l₀ and is l, i words are written, and so many candidates were met and rejected before o.
 pub record Filling (st : Settings) (s l₀ l : List ℕ) (met bad late i o : ℕ) : Type 0 where
@@ -44,6 +57,18 @@ module _ {st : Settings} {s l₀ l : List ℕ} {met bad late i o : ℕ} (f : Fil
         structure = omega (arith, f .structure, ap structures (w .0));
         time = omega (arith, f .time, ap times (w .0));
         near = omega (arith, f .near);
+        some = f .some;
+      }
+
+  -- and where a walk is skipped
+  pub filling-skip : (p : ℕ) → Skips s o p → Filling st s l₀ l met bad late i p
+  filling-skip p k =
+      record {
+        written = writing-skip (f .written) (ap records (sym (k .same st)));
+        candidates = rw (k .same st) (f .candidates);
+        structure = rw (k .same st) (f .structure);
+        time = rw (k .same st) (f .time);
+        near = omega (arith, f .near, k .forward);
         some = f .some;
       }
 

@@ -1,6 +1,7 @@
 pub mod TimeLaws
 pub mod VisitLaws
 pub mod RunLaws
+pub mod SkipLaws
 pub mod FillLaws
 pub mod CallLaws
 pub mod RecordLaws

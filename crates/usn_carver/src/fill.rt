@@ -10,6 +10,7 @@ ghost use Rattle.usn_carver.specs.Carve.{events};
 use crate::CarvingStats;
 use crate::step::CarveStep;
 use crate::step::carve_step;
+use crate::zeros::skip_zeros;
 
 // Whether the records to be carved are no more than room. None is counted where room is enough for any extract so long: a
 // carved record takes 64 bytes, of which the last may lack 4.
@@ -33,8 +34,10 @@ fn count_records(extract: &[u8], lower: u64, upper: u64, largest: usize) -> usiz
             CarveStep::Stop => {
                 return n;
             }
-            CarveStep::Zero(next)
-            | CarveStep::Move(next)
+            CarveStep::Zero(next) => {
+                o = skip_zeros(extract, next);
+            }
+            CarveStep::Move(next)
             | CarveStep::BadStructure(_, next)
             | CarveStep::BadTime(_, next) => {
                 o = next;
@@ -75,7 +78,10 @@ pub fn fill_list(
                     rejected_structure: structure,
                 };
             }
-            CarveStep::Zero(next) | CarveStep::Move(next) => {
+            CarveStep::Zero(next) => {
+                o = skip_zeros(extract, next);
+            }
+            CarveStep::Move(next) => {
                 o = next;
             }
             CarveStep::BadStructure(_, next) => {

@@ -1,18 +1,16 @@
 -- The invariant: the records counted, with those from o on, are all.
-use Prim.Native.Nat.{_+_, _-_, _≤_}
-use mathlib.Core.Path.{_≡_, ap}
+use Prim.Native.Nat.{_-_}
 use native.Mathlib.Omega.{arith}
 use lib.ListN.{length}
 use borrow.Author.Needs.{needs}
 use Rattle.usn_carver.specs.Settings.{settingsOf}
-use Rattle.usn_carver.specs.Events.{records}
-use Rattle.usn_carver.specs.Carve.{eventsFrom, events}
 use Rattle.usn_carver.proofs.RunLaws.{rest}
+use Rattle.usn_carver.proofs.FillLaws.{Counting, counted, counting-skip}
 use Rattle.usn_carver.proofs.fill.count_records.Statement.{statement}
 use Rattle.usn_carver.proofs.fill.count_records.Tie as tie
 
 abbrev Inv-loop : tie.InvT-loop
-Inv-loop extract lower upper largest n₀ o₀ n o = (n + length (records (eventsFrom (settingsOf lower upper largest) extract o)) ≡ length (records (events (settingsOf lower upper largest) extract))) × (n ≤ o)
+Inv-loop extract lower upper largest n₀ o₀ n o = Counting (settingsOf lower upper largest) extract n o
 
 abbrev μ-loop : tie.MeasureT-loop
 μ-loop extract lower upper largest n₀ o₀ n o = length extract - o
@@ -27,10 +25,19 @@ enum-told : tie.Need-enum-told Inv-loop μ-loop
 enum-told c = search needs
 
 returns : tie.Need-returns Inv-loop μ-loop
-returns c = let w = rest _ _ _ (c .enum-told .given .1) (c .before .before .carve-step .ensures) in omega (arith, ap (λ es. length (records es)) w)
+returns c = let w = rest _ _ _ (c .enum-told .given .1) (c .before .before .carve-step .ensures) in omega (arith, counted w)
 
 enum-known-next : tie.Need-enum-known-next Inv-loop μ-loop
 enum-known-next c = search needs
+
+skip-zeros-requires : tie.Need-skip-zeros-requires Inv-loop μ-loop
+skip-zeros-requires c κs = tt
+
+loop-less : tie.Need-loop-less Inv-loop μ-loop
+loop-less c = let w = rest _ _ _ (c .before .before .next .given .1) (c .before .before .before .before .carve-step .ensures) in omega (arith, c .skip-zeros .ensures .forward)
+
+loop-again : tie.Need-loop-again Inv-loop μ-loop
+loop-again c = let w = rest _ _ _ (c .before .before .next .given .1) (c .before .before .before .before .carve-step .ensures) in counting-skip _ (c .skip-zeros .ensures) (omega (arith, counted (w .0)))
 
 enum-known-next-2 : tie.Need-enum-known-next-2 Inv-loop μ-loop
 enum-known-next-2 c = search needs
@@ -47,35 +54,29 @@ enum-known-next-5 c = search needs
 add-n : tie.Need-add-n Inv-loop μ-loop
 add-n c = let w = rest _ _ _ (c .before .next5 .given .1) (c .before .before .before .carve-step .ensures) in omega arith
 
-loop-less : tie.Need-loop-less Inv-loop μ-loop
-loop-less c = let w = rest _ _ _ (c .before .next5 .given .1) (c .before .before .before .carve-step .ensures) in omega arith
-
-loop-again : tie.Need-loop-again Inv-loop μ-loop
-loop-again c = let w = rest _ _ _ (c .before .next5 .given .1) (c .before .before .before .carve-step .ensures) in omega (arith, ap (λ es. length (records es)) (w .0))
-
 loop-less-2 : tie.Need-loop-less-2 Inv-loop μ-loop
-loop-less-2 c = let w = rest _ _ _ (c .before .next .given .1) (c .before .before .before .carve-step .ensures) in omega arith
+loop-less-2 c = let w = rest _ _ _ (c .before .next5 .given .1) (c .before .before .before .carve-step .ensures) in omega arith
 
 loop-again-2 : tie.Need-loop-again-2 Inv-loop μ-loop
-loop-again-2 c = let w = rest _ _ _ (c .before .next .given .1) (c .before .before .before .carve-step .ensures) in omega (arith, ap (λ es. length (records es)) (w .0))
+loop-again-2 c = let w = rest _ _ _ (c .before .next5 .given .1) (c .before .before .before .carve-step .ensures) in omega (arith, counted (w .0))
 
 loop-less-3 : tie.Need-loop-less-3 Inv-loop μ-loop
 loop-less-3 c = let w = rest _ _ _ (c .before .next2 .given .1) (c .before .before .before .carve-step .ensures) in omega arith
 
 loop-again-3 : tie.Need-loop-again-3 Inv-loop μ-loop
-loop-again-3 c = let w = rest _ _ _ (c .before .next2 .given .1) (c .before .before .before .carve-step .ensures) in omega (arith, ap (λ es. length (records es)) (w .0))
+loop-again-3 c = let w = rest _ _ _ (c .before .next2 .given .1) (c .before .before .before .carve-step .ensures) in omega (arith, counted (w .0))
 
 loop-less-4 : tie.Need-loop-less-4 Inv-loop μ-loop
 loop-less-4 c = let w = rest _ _ _ (c .before .next3 .given .1) (c .before .before .before .carve-step .ensures) in omega arith
 
 loop-again-4 : tie.Need-loop-again-4 Inv-loop μ-loop
-loop-again-4 c = let w = rest _ _ _ (c .before .next3 .given .1) (c .before .before .before .carve-step .ensures) in omega (arith, ap (λ es. length (records es)) (w .0))
+loop-again-4 c = let w = rest _ _ _ (c .before .next3 .given .1) (c .before .before .before .carve-step .ensures) in omega (arith, counted (w .0))
 
 loop-less-5 : tie.Need-loop-less-5 Inv-loop μ-loop
 loop-less-5 c = let w = rest _ _ _ (c .before .next4 .given .1) (c .before .before .before .carve-step .ensures) in omega arith
 
 loop-again-5 : tie.Need-loop-again-5 Inv-loop μ-loop
-loop-again-5 c = let w = rest _ _ _ (c .before .next4 .given .1) (c .before .before .before .carve-step .ensures) in omega (arith, ap (λ es. length (records es)) (w .0))
+loop-again-5 c = let w = rest _ _ _ (c .before .next4 .given .1) (c .before .before .before .carve-step .ensures) in omega (arith, counted (w .0))
 
 pub count-records-spec : {M : Type 1} → statement M
 count-records-spec =
@@ -88,13 +89,14 @@ count-records-spec =
     enum-told
     returns
     enum-known-next
+    skip-zeros-requires
+    loop-less
+    loop-again
     enum-known-next-2
     enum-known-next-3
     enum-known-next-4
     enum-known-next-5
     add-n
-    loop-less
-    loop-again
     loop-less-2
     loop-again-2
     loop-less-3

@@ -5,7 +5,7 @@ use lib.ListN.{length}
 use borrow.Author.Needs.{needs}
 use Rattle.usn_carver.specs.Settings.{settingsOf}
 use Rattle.usn_carver.proofs.RunLaws.{rest}
-use Rattle.usn_carver.proofs.FillLaws.{Filling, filling-start, filling-pass, filling-structure, filling-time, filling-room, filling-carved, filling-stats, filling-end}
+use Rattle.usn_carver.proofs.FillLaws.{Filling, filling-start, filling-pass, filling-skip, filling-structure, filling-time, filling-room, filling-carved, filling-stats, filling-end}
 use Rattle.usn_carver.proofs.fill.fill_list.Statement.{statement}
 use Rattle.usn_carver.proofs.fill.fill_list.Tie as tie
 
@@ -34,8 +34,23 @@ returns c = let w = rest _ _ _ (c .enum-told .given .1) (c .before .before .carv
 enum-known-next : tie.Need-enum-known-next Inv-loop μ-loop
 enum-known-next c = search needs
 
+skip-zeros-requires : tie.Need-skip-zeros-requires Inv-loop μ-loop
+skip-zeros-requires c κs = tt
+
+loop-less : tie.Need-loop-less Inv-loop μ-loop
+loop-less c = let w = rest _ _ _ (c .before .before .next .given .1) (c .before .before .before .before .carve-step .ensures) in omega (arith, c .skip-zeros .ensures .forward)
+
+loop-again : tie.Need-loop-again Inv-loop μ-loop
+loop-again c = filling-skip (filling-pass (c .before .before .before .before .before .loop .inv) _ (rest _ _ _ (c .before .before .next .given .1) (c .before .before .before .before .carve-step .ensures))) _ (c .skip-zeros .ensures)
+
 enum-known-next-2 : tie.Need-enum-known-next-2 Inv-loop μ-loop
 enum-known-next-2 c = search needs
+
+loop-less-2 : tie.Need-loop-less-2 Inv-loop μ-loop
+loop-less-2 c = let w = rest _ _ _ (c .before .next2 .given .1) (c .before .before .before .carve-step .ensures) in omega arith
+
+loop-again-2 : tie.Need-loop-again-2 Inv-loop μ-loop
+loop-again-2 c = filling-pass (c .before .before .before .before .loop .inv) _ (rest _ _ _ (c .before .next2 .given .1) (c .before .before .before .carve-step .ensures))
 
 enum-known-next-3 : tie.Need-enum-known-next-3 Inv-loop μ-loop
 enum-known-next-3 c = search needs
@@ -46,11 +61,11 @@ add-candidates c = let w = rest _ _ _ (c .before .next3 .given .1) (c .before .b
 add-structure : tie.Need-add-structure Inv-loop μ-loop
 add-structure c = let w = rest _ _ _ (c .before .next3 .given .1) (c .before .before .before .carve-step .ensures) in omega arith
 
-loop-less : tie.Need-loop-less Inv-loop μ-loop
-loop-less c = let w = rest _ _ _ (c .before .next3 .given .1) (c .before .before .before .carve-step .ensures) in omega arith
+loop-less-3 : tie.Need-loop-less-3 Inv-loop μ-loop
+loop-less-3 c = let w = rest _ _ _ (c .before .next3 .given .1) (c .before .before .before .carve-step .ensures) in omega arith
 
-loop-again : tie.Need-loop-again Inv-loop μ-loop
-loop-again c = filling-structure (c .before .before .before .before .loop .inv) _ _ (rest _ _ _ (c .before .next3 .given .1) (c .before .before .before .carve-step .ensures))
+loop-again-3 : tie.Need-loop-again-3 Inv-loop μ-loop
+loop-again-3 c = filling-structure (c .before .before .before .before .loop .inv) _ _ (rest _ _ _ (c .before .next3 .given .1) (c .before .before .before .carve-step .ensures))
 
 enum-known-next-4 : tie.Need-enum-known-next-4 Inv-loop μ-loop
 enum-known-next-4 c = search needs
@@ -61,11 +76,11 @@ add-candidates-2 c = let w = rest _ _ _ (c .before .next4 .given .1) (c .before 
 add-time : tie.Need-add-time Inv-loop μ-loop
 add-time c = let w = rest _ _ _ (c .before .next4 .given .1) (c .before .before .before .carve-step .ensures) in omega arith
 
-loop-less-2 : tie.Need-loop-less-2 Inv-loop μ-loop
-loop-less-2 c = let w = rest _ _ _ (c .before .next4 .given .1) (c .before .before .before .carve-step .ensures) in omega arith
+loop-less-4 : tie.Need-loop-less-4 Inv-loop μ-loop
+loop-less-4 c = let w = rest _ _ _ (c .before .next4 .given .1) (c .before .before .before .carve-step .ensures) in omega arith
 
-loop-again-2 : tie.Need-loop-again-2 Inv-loop μ-loop
-loop-again-2 c = filling-time (c .before .before .before .before .loop .inv) _ _ (rest _ _ _ (c .before .next4 .given .1) (c .before .before .before .carve-step .ensures))
+loop-again-4 : tie.Need-loop-again-4 Inv-loop μ-loop
+loop-again-4 c = filling-time (c .before .before .before .before .loop .inv) _ _ (rest _ _ _ (c .before .next4 .given .1) (c .before .before .before .carve-step .ensures))
 
 enum-known-size : tie.Need-enum-known-size Inv-loop μ-loop
 enum-known-size c = search needs
@@ -79,23 +94,11 @@ add-candidates-3 c = let w = rest _ _ _ (c .before .before .before .before .befo
 add-i : tie.Need-add-i Inv-loop μ-loop
 add-i c = let w = rest _ _ _ (c .before .before .before .before .before .size .given .1) (c .before .before .before .before .before .before .before .carve-step .ensures) in omega (arith, filling-room (c .before .before .before .before .before .before .before .before .loop .inv) _ _ _ w (c .before .before .before .before .before .before .before .before .before .before .before .pre))
 
-loop-less-3 : tie.Need-loop-less-3 Inv-loop μ-loop
-loop-less-3 c = let w = rest _ _ _ (c .before .before .before .before .before .size .given .1) (c .before .before .before .before .before .before .before .carve-step .ensures) in omega arith
-
-loop-again-3 : tie.Need-loop-again-3 Inv-loop μ-loop
-loop-again-3 c = filling-carved (c .before .before .before .before .before .before .before .before .loop .inv) _ _ _ (rest _ _ _ (c .before .before .before .before .before .size .given .1) (c .before .before .before .before .before .before .before .carve-step .ensures)) (c .before .before .put-pair .ensures)
-
-loop-less-4 : tie.Need-loop-less-4 Inv-loop μ-loop
-loop-less-4 c = let w = rest _ _ _ (c .before .next .given .1) (c .before .before .before .carve-step .ensures) in omega arith
-
-loop-again-4 : tie.Need-loop-again-4 Inv-loop μ-loop
-loop-again-4 c = filling-pass (c .before .before .before .before .loop .inv) _ (rest _ _ _ (c .before .next .given .1) (c .before .before .before .carve-step .ensures))
-
 loop-less-5 : tie.Need-loop-less-5 Inv-loop μ-loop
-loop-less-5 c = let w = rest _ _ _ (c .before .next2 .given .1) (c .before .before .before .carve-step .ensures) in omega arith
+loop-less-5 c = let w = rest _ _ _ (c .before .before .before .before .before .size .given .1) (c .before .before .before .before .before .before .before .carve-step .ensures) in omega arith
 
 loop-again-5 : tie.Need-loop-again-5 Inv-loop μ-loop
-loop-again-5 c = filling-pass (c .before .before .before .before .loop .inv) _ (rest _ _ _ (c .before .next2 .given .1) (c .before .before .before .carve-step .ensures))
+loop-again-5 c = filling-carved (c .before .before .before .before .before .before .before .before .loop .inv) _ _ _ (rest _ _ _ (c .before .before .before .before .before .size .given .1) (c .before .before .before .before .before .before .before .carve-step .ensures)) (c .before .before .put-pair .ensures)
 
 pub fill-list-spec : {M : Type 1} → statement M
 fill-list-spec =
@@ -109,24 +112,25 @@ fill-list-spec =
     same-length
     returns
     enum-known-next
+    skip-zeros-requires
+    loop-less
+    loop-again
     enum-known-next-2
+    loop-less-2
+    loop-again-2
     enum-known-next-3
     add-candidates
     add-structure
-    loop-less
-    loop-again
+    loop-less-3
+    loop-again-3
     enum-known-next-4
     add-candidates-2
     add-time
-    loop-less-2
-    loop-again-2
+    loop-less-4
+    loop-again-4
     enum-known-size
     put-pair-requires
     add-candidates-3
     add-i
-    loop-less-3
-    loop-again-3
-    loop-less-4
-    loop-again-4
     loop-less-5
     loop-again-5)
