@@ -1,5 +1,5 @@
 -- The loops over an extract: what was counted and written, with what is left from the offset on, is the whole. Assumes nothing.
-use Prim.Native.Nat.{ℕ, _+_, _/_, _≤_}
+use Prim.Native.Nat.{ℕ, _+_, _*_, _/_, _≤_}
 use mathlib.Core.Path.{_≡_, refl, ap, sym}
 use mathlib.Core.List.{List, [], _∷_}
 use native.Mathlib.Omega.{arith}
@@ -27,100 +27,139 @@ counted e = ap (λ (xs : List Event). length (records xs)) e
 pub counting-skip : {st : Settings} {s : List ℕ} {n o : ℕ} (p : ℕ) → Skips s o p → Counting st s n o → Counting st s n p
 counting-skip {st} p k f = record { carved = rw (k .same st) (f .carved); near = omega (arith, f .near, k .forward) }
 
--- The list was l₀ and is l, i words are written, and so many candidates were met and rejected before o.
-pub record Filling (st : Settings) (s l₀ l : List ℕ) (met bad late i o : ℕ) : Type 0 where
-  pub written : Writing placeWords 2 l₀ l i (records (eventsFrom st s o)) (records (events st s))
-  pub candidates : met + length (eventsFrom st s o) ≡ length (events st s)
-  pub structure : bad + structures (eventsFrom st s o) ≡ structures (events st s)
-  pub time : late + times (eventsFrom st s o) ≡ times (events st s)
-  pub near : met ≤ o
-  pub some : bad + late ≤ met
-
-pub filling-start : (st : Settings) (s l : List ℕ) → Filling st s l l 0 0 0 0 0
-filling-start st s l =
+-- counters are equal by their parts
+stats-are : (x : CarvingStats) (size : ℕ) (es : List Event) → x .«bytes_scanned» ≡ size → x .«candidates_examined» ≡ length es
+    → x .«records_carved» ≡ length (records es) → x .«rejected_timestamp» ≡ times es → x .«rejected_structure» ≡ structures es → x ≡ statsOf size es
+stats-are x size es a b c d e =
+    let y : CarvingStats =
     record {
+      «bytes_scanned» = x .«bytes_scanned»;
+      «candidates_examined» = x .«candidates_examined»;
+      «records_carved» = x .«records_carved»;
+      «rejected_timestamp» = x .«rejected_timestamp»;
+      «rejected_structure» = x .«rejected_structure»;
+    } in
+    let same : y ≡ statsOf size es = rw (a, b, c, d, e) in
+    same
+
+-- The list was l₀ and is l, and before o the run counted what x says.
+pub record Filling (st : Settings) (s l₀ l : List ℕ) (x : CarvingStats) (o : ℕ) : Type 0 where
+  pub written : Writing placeWords 2 l₀ l (2 * x .«records_carved») (records (eventsFrom st s o)) (records (events st s))
+  pub bytes : x .«bytes_scanned» ≡ length s
+  pub candidates : x .«candidates_examined» + length (eventsFrom st s o) ≡ length (events st s)
+  pub structure : x .«rejected_structure» + structures (eventsFrom st s o) ≡ structures (events st s)
+  pub time : x .«rejected_timestamp» + times (eventsFrom st s o) ≡ times (events st s)
+  -- so no counter is above o
+  pub near : x .«candidates_examined» ≤ o
+  pub parts : x .«records_carved» + x .«rejected_structure» + x .«rejected_timestamp» ≡ x .«candidates_examined»
+
+pub filling-start : (st : Settings) (s l : List ℕ) {x : CarvingStats} → x ≡ statsOf (length s) [] → Filling st s l l x 0
+filling-start st s l e =
+    rw e
+    (record {
       written = writing-start placeWords 2 l (records (events st s));
+      bytes = refl;
       candidates = omega arith;
       structure = omega arith;
       time = omega arith;
       near = omega arith;
-      some = omega arith;
-    }
+      parts = refl;
+    })
 
-module _ {st : Settings} {s l₀ l : List ℕ} {met bad late i o : ℕ} (f : Filling st s l₀ l met bad late i o) where
-  -- what is left after a visit that finds no candidate, or rejects one
-  pub filling-pass : (p : ℕ) → Left (visit st s) (length s) o (go [] p) → Filling st s l₀ l met bad late i p
-  filling-pass p w =
+module _ {st : Settings} {s l₀ l : List ℕ} {x : CarvingStats} {o : ℕ} (f : Filling st s l₀ l x o) where
+  -- where nothing is found up to p
+  moved : (p : ℕ) → o ≤ p → eventsFrom st s o ≡ eventsFrom st s p → Filling st s l₀ l x p
+  moved p h e =
       record {
-        written = writing-skip (f .written) (ap records (w .0));
-        candidates = omega (arith, f .candidates, ap length (w .0));
-        structure = omega (arith, f .structure, ap structures (w .0));
-        time = omega (arith, f .time, ap times (w .0));
+        written = writing-skip (f .written) (ap records e);
+        bytes = f .bytes;
+        candidates = rw e at (f .candidates);
+        structure = rw e at (f .structure);
+        time = rw e at (f .time);
         near = omega (arith, f .near);
-        some = f .some;
+        parts = f .parts;
       }
 
-  -- and where a walk is skipped
-  pub filling-skip : (p : ℕ) → Skips s o p → Filling st s l₀ l met bad late i p
-  filling-skip p k =
-      record {
-        written = writing-skip (f .written) (ap records (sym (k .same st)));
-        candidates = rw (k .same st) (f .candidates);
-        structure = rw (k .same st) (f .structure);
-        time = rw (k .same st) (f .time);
-        near = omega (arith, f .near, k .forward);
-        some = f .some;
-      }
+  pub filling-skip : (p : ℕ) → Skips s o p → Filling st s l₀ l x p
+  filling-skip p k = moved p (k .forward) (sym (k .same st))
 
-  pub filling-structure : (v p : ℕ) → Left (visit st s) (length s) o (go (rejected structure o v ∷ []) p) → Filling st s l₀ l (met + 1) (bad + 1) late i p
+  pub filling-pass : (p : ℕ) → Left (visit st s) (length s) o (go [] p) → Filling st s l₀ l x p
+  filling-pass p w = moved p (omega arith) (w .0)
+
+  -- a rejected candidate
+  pub filling-structure : (v p : ℕ) → Left (visit st s) (length s) o (go (rejected structure o v ∷ []) p)
+      → Filling st s l₀ l (record {
+        «bytes_scanned» = x .«bytes_scanned»;
+        «candidates_examined» = x .«candidates_examined» + 1;
+        «records_carved» = x .«records_carved»;
+        «rejected_timestamp» = x .«rejected_timestamp»;
+        «rejected_structure» = x .«rejected_structure» + 1;
+      }) p
   filling-structure v p w =
       record {
         written = writing-skip (f .written) (ap records (w .0));
+        bytes = f .bytes;
         candidates = omega (arith, f .candidates, ap length (w .0));
         structure = omega (arith, f .structure, ap structures (w .0));
         time = omega (arith, f .time, ap times (w .0));
         near = omega (arith, f .near);
-        some = omega (arith, f .some);
+        parts = omega (arith, f .parts);
       }
 
-  pub filling-time : (v p : ℕ) → Left (visit st s) (length s) o (go (rejected time o v ∷ []) p) → Filling st s l₀ l (met + 1) bad (late + 1) i p
+  pub filling-time : (v p : ℕ) → Left (visit st s) (length s) o (go (rejected time o v ∷ []) p)
+      → Filling st s l₀ l (record {
+        «bytes_scanned» = x .«bytes_scanned»;
+        «candidates_examined» = x .«candidates_examined» + 1;
+        «records_carved» = x .«records_carved»;
+        «rejected_timestamp» = x .«rejected_timestamp» + 1;
+        «rejected_structure» = x .«rejected_structure»;
+      }) p
   filling-time v p w =
       record {
         written = writing-skip (f .written) (ap records (w .0));
+        bytes = f .bytes;
         candidates = omega (arith, f .candidates, ap length (w .0));
         structure = omega (arith, f .structure, ap structures (w .0));
         time = omega (arith, f .time, ap times (w .0));
         near = omega (arith, f .near);
-        some = omega (arith, f .some);
+        parts = omega (arith, f .parts);
       }
 
   -- a carved record has room, and is written
-  pub filling-room : (v n p : ℕ) → Left (visit st s) (length s) o (go (carved o v n ∷ []) p) → length (records (events st s)) ≤ length l₀ / 2 → i + 2 ≤ length l
-  filling-room v n p w h = writing-room placeWords 2 (λ _. refl) (f .written) (ap records (w .0)) h
+  module _ (v n p : ℕ) (w : Left (visit st s) (length s) o (go (carved o v n ∷ []) p)) where
+    pub filling-room : length (records (events st s)) ≤ length l₀ / 2 → 2 * x .«records_carved» + 2 ≤ length l
+    filling-room h = writing-room placeWords 2 (λ _. refl) (f .written) (ap records (w .0)) h
 
-  pub filling-carved : {l′ : List ℕ} (v n p : ℕ) → Left (visit st s) (length s) o (go (carved o v n ∷ []) p) → l′ ≡ sets l i (o ∷ n ∷ [])
-      → Filling st s l₀ l′ (met + 1) bad late (i + 2) p
-  filling-carved v n p w e =
-      record {
-        written = writing-row placeWords 2 (λ _. refl) (f .written) (ap records (w .0)) e;
-        candidates = omega (arith, f .candidates, ap length (w .0));
-        structure = omega (arith, f .structure, ap structures (w .0));
-        time = omega (arith, f .time, ap times (w .0));
-        near = omega (arith, f .near);
-        some = omega (arith, f .some);
-      }
+    pub filling-carved : {l′ : List ℕ} → l′ ≡ sets l (2 * x .«records_carved») (o ∷ n ∷ [])
+        → Filling st s l₀ l′ (record {
+          «bytes_scanned» = x .«bytes_scanned»;
+          «candidates_examined» = x .«candidates_examined» + 1;
+          «records_carved» = x .«records_carved» + 1;
+          «rejected_timestamp» = x .«rejected_timestamp»;
+          «rejected_structure» = x .«rejected_structure»;
+        }) p
+    filling-carved {l′} e =
+        let row = writing-row placeWords 2 (λ _. refl) (f .written) (ap records (w .0)) e in
+        let two : 2 * x .«records_carved» + 2 ≡ 2 * (x .«records_carved» + 1) = omega arith in
+        record {
+          written = rw two at row;
+          bytes = f .bytes;
+          candidates = omega (arith, f .candidates, ap length (w .0));
+          structure = omega (arith, f .structure, ap structures (w .0));
+          time = omega (arith, f .time, ap times (w .0));
+          near = omega (arith, f .near);
+          parts = omega (arith, f .parts);
+        }
 
-  -- where nothing is left, the list and the counters are those of the whole
-  pub filling-stats : eventsFrom st s o ≡ []
-      → _≡_ {A = CarvingStats}
-      (record { «bytes_scanned» = length s; «candidates_examined» = met; «records_carved» = i / 2; «rejected_timestamp» = late; «rejected_structure» = bad })
-      (statsOf (length s) (events st s))
-  filling-stats w =
-      let a : met ≡ length (events st s) = omega (arith, f .candidates, ap length w) in
-      let b : i / 2 ≡ length (records (events st s)) = omega (arith, f .written .count, ap (λ (es : List Event). length (records es)) w) in
-      let c : late ≡ times (events st s) = omega (arith, f .time, ap times w) in
-      let d : bad ≡ structures (events st s) = omega (arith, f .structure, ap structures w) in
-      cc
+  -- where nothing is left, the counters and the list are those of the whole
+  module _ (w : eventsFrom st s o ≡ []) where
+    pub filling-stats : x ≡ statsOf (length s) (events st s)
+    filling-stats =
+        stats-are x (length s) (events st s) (f .bytes)
+        (omega (arith, f .candidates, ap length w))
+        (omega (arith, f .written .count, counted w))
+        (omega (arith, f .time, ap times w))
+        (omega (arith, f .structure, ap structures w))
 
-  pub filling-end : eventsFrom st s o ≡ [] → length (records (events st s)) ≤ length l₀ / 2 → l ≡ overwrite l₀ (flatten placeWords (records (events st s)))
-  filling-end w h = writing-end placeWords 2 (λ _. refl) (f .written) (ap records w) h
+    pub filling-end : length (records (events st s)) ≤ length l₀ / 2 → l ≡ overwrite l₀ (flatten placeWords (records (events st s)))
+    filling-end h = writing-end placeWords 2 (λ _. refl) (f .written) (ap records w) h

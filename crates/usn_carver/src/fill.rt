@@ -1,5 +1,6 @@
 // The loops over an extract: one that fills a lent list and counts, and one that asks whether the list has room.
 ghost use mathlib.Core.Path.{_≡_};
+ghost use mathlib.Core.List.{[]};
 ghost use Prim.Native.Nat.{_/_, _≤_};
 ghost use lib.ListN.{length};
 ghost use lib.Dec.{leb};
@@ -31,12 +32,8 @@ fn count_records(extract: &[u8], lower: u64, upper: u64, largest: usize) -> usiz
     let mut o: usize = 0;
     loop {
         match carve_step(extract, o, lower, upper, largest) {
-            CarveStep::Stop => {
-                return n;
-            }
-            CarveStep::Zero(next) => {
-                o = skip_zeros(extract, next);
-            }
+            CarveStep::Stop => return n,
+            CarveStep::Zero(next) => o = skip_zeros(extract, next),
             CarveStep::Move(next)
             | CarveStep::BadStructure(_, next)
             | CarveStep::BadTime(_, next) => {
@@ -62,44 +59,42 @@ pub fn fill_list(
     ensures { λ r. ⌜ r ≡ statsOf (length (now (extract .entry))) (events (settingsOf lower upper largest) (now (extract .entry))) ⌝ }
     ensures { λ _. ⌜ now (list .exit) ≡ overwrite (now (list .entry)) (flatten placeWords (records (events (settingsOf lower upper largest) (now (extract .entry))))) ⌝ }
 {
-    let mut candidates: u64 = 0;
-    let mut structure: u64 = 0;
-    let mut time: u64 = 0;
-    let mut i: usize = 0;
+    let mut stats = nothing_met(extract.len());
     let mut o: usize = 0;
     loop {
         match carve_step(extract, o, lower, upper, largest) {
-            CarveStep::Stop => {
-                return CarvingStats {
-                    bytes_scanned: extract.len(),
-                    candidates_examined: candidates,
-                    records_carved: i / 2,
-                    rejected_timestamp: time,
-                    rejected_structure: structure,
-                };
-            }
-            CarveStep::Zero(next) => {
-                o = skip_zeros(extract, next);
-            }
-            CarveStep::Move(next) => {
-                o = next;
-            }
+            CarveStep::Stop => return stats,
+            CarveStep::Zero(next) => o = skip_zeros(extract, next),
+            CarveStep::Move(next) => o = next,
             CarveStep::BadStructure(_, next) => {
-                candidates += 1;
-                structure += 1;
+                stats.candidates_examined += 1;
+                stats.rejected_structure += 1;
                 o = next;
             }
             CarveStep::BadTime(_, next) => {
-                candidates += 1;
-                time += 1;
+                stats.candidates_examined += 1;
+                stats.rejected_timestamp += 1;
                 o = next;
             }
             CarveStep::Carved(_, size, next) => {
-                walk::put_pair(list, i, o, size);
-                candidates += 1;
-                i += 2;
+                walk::put_pair(list, 2 * stats.records_carved, o, size);
+                stats.candidates_examined += 1;
+                stats.records_carved += 1;
                 o = next;
             }
         }
+    }
+}
+
+// The counters of a run over so many bytes before its first candidate.
+fn nothing_met(bytes_scanned: usize) -> CarvingStats
+    ensures { λ r. ⌜ r ≡ statsOf «bytes_scanned» [] ⌝ }
+{
+    CarvingStats {
+        bytes_scanned,
+        candidates_examined: 0,
+        records_carved: 0,
+        rejected_timestamp: 0,
+        rejected_structure: 0,
     }
 }
