@@ -1,7 +1,7 @@
 -- Two runs that really differ, and two that show why the exception is asked, computed. Assumes nothing.
-use Prim.Native.Nat.{ℕ, zero, suc, _+_, _-_, _*_, _/_, _%_, _^_, _≤_, _<_}
+use Prim.Native.Nat.{ℕ, zero, suc, _+_, _-_, _*_, _/_, _%_, _^_, _≤_}
 use mathlib.Core.Path.{_≡_, refl, sym, ap, _∙_}
-use mathlib.Core.List.{List, [], _∷_, _++_, List·Memᴰ, List·Memᴰ·cases-cons, List·Memᴰ·not-nil}
+use mathlib.Core.List.{List, [], _∷_, _++_, List·Memᴰ·cases-cons, List·Memᴰ·not-nil}
 use mathlib.Core.Logic.{⊎-elim}
 use mathlib.Core.Bool.{Bool, true, false}
 use native.Mathlib.Omega.{arith}
@@ -9,17 +9,16 @@ use lib.ListN.{length, getD, length-append, List·getD-append}
 use lib.Seq.{getD-append-add}
 use lib.Dec.{ltb}
 use borrow.Author.Tests.{ltb-true, ltb-false}
-use Rattle.walk.specs.Masked.{Within, Apart, Masked, placesOf}
+use Rattle.walk.specs.Masked.{Apart, Masked, placesOf}
 use Rattle.walk.specs.Outcome.{answered}
 use Rattle.walk.specs.Walk.{walk, from}
-use Rattle.walk.specs.declared.Place.{Place}
 use Rattle.usn_record.specs.Bytes.{le, leAt}
-use Rattle.usn_record.specs.Fields.{timestampOf, referenceOf, filenameOf}
+use Rattle.usn_record.specs.Fields.{filenameOf}
 use Rattle.usn_record.specs.Names.{nameAt}
 use Rattle.usn_record.specs.Record.{recordOf, parsed, listed}
 use Rattle.usn_carver.specs.Settings.{standard}
-use Rattle.usn_carver.specs.Events.{structure, Event, rejected, carved}
-use Rattle.usn_carver.specs.Carve.{judged, visitAs, visit, events, carving, listAfterCarving}
+use Rattle.usn_carver.specs.Events.{structure, rejected, carved}
+use Rattle.usn_carver.specs.Carve.{judged, visitAs, visit, events, carving}
 use Rattle.usn_carver.specs.Masking.{nameOf, NoOverlap}
 use Rattle.usn_carver.proofs.TwoRunLaws.{SameCarving, call-two-runs}
 

@@ -1,6 +1,6 @@
 -- Every candidate that a run meets, and each carved record as what it is listed for: its parser accepts it, so no call of it can refuse.
 -- Assumes nothing.
-use Prim.Native.Nat.{ℕ, zero, suc, _+_, _-_, _%_, _≤_, _<_}
+use Prim.Native.Nat.{ℕ, _+_, _-_, _≤_}
 use mathlib.Core.Path.{_≡_, refl, sym, ap, _∙_}
 use mathlib.Core.Logic.{⊎-elim}
 use mathlib.Core.List.{List, [], _∷_}
@@ -11,7 +11,7 @@ use lib.Dec.{eqb}
 use Rattle.walk.specs.Outcome.{answered}
 use Rattle.walk.specs.Places.{part}
 use Rattle.walk.specs.Refusals.{domain}
-use Rattle.walk.specs.Walk.{Visit, stop, go, after, walk, from}
+use Rattle.walk.specs.Walk.{Visit, from}
 use Rattle.walk.specs.declared.Place.{Place}
 use Rattle.walk.proofs.AgreeLaws.{part-lent}
 use Rattle.walk.proofs.WalkLaws.{All, Finds, walk-all}

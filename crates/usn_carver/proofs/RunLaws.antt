@@ -1,22 +1,18 @@
 -- A whole run: it goes forward, a carved record takes 64 bytes of it, of which the last may lack 4, and each candidate is counted once.
 -- Assumes nothing.
-use Prim.Native.Nat.{ℕ, zero, suc, _+_, _-_, _*_, _/_, _≤_, _<_}
+use Prim.Native.Nat.{ℕ, zero, suc, _+_, _-_, _*_, _/_, _≤_}
 use mathlib.Core.Path.{_≡_, refl, ap, sym, _∙_}
-use mathlib.Core.List.{List, [], _∷_, _++_}
+use mathlib.Core.List.{List, [], _∷_}
 use native.Mathlib.Omega.{arith}
 use lib.ListN.{length}
-use lib.Dec.{ltb}
-use borrow.Author.Tests.{lt-ltb, le-ltb}
-use Rattle.walk.specs.Walk.{Visit, stop, go, after, walk, from}
-use Rattle.walk.specs.declared.Place.{Place}
+use Rattle.walk.specs.Walk.{Visit, after, walk, from}
 use Rattle.walk.proofs.WalkLaws.{Forward, Left, left}
 use Rattle.usn_record.proofs.NameLaws.{fixed-low}
 use Rattle.usn_carver.specs.Settings.{Settings}
-use Rattle.usn_carver.specs.Events.{structure, time, Event, rejected, carved, records, structures, times, statsOf}
-use Rattle.usn_carver.specs.Carve.{visit, eventsFrom, events, visitOf}
-use Rattle.usn_carver.specs.declared.CarvingStats.{CarvingStats}
+use Rattle.usn_carver.specs.Events.{structure, time, Event, rejected, carved, records, structures, times}
+use Rattle.usn_carver.specs.Carve.{visit, events, visitOf}
 use Rattle.usn_carver.specs.declared.step.CarveStep.{CarveStep}
-use Rattle.usn_carver.proofs.VisitLaws.{Candidate, Shape, stops, passes, rejects, carves, visit-shape}
+use Rattle.usn_carver.proofs.VisitLaws.{Shape, stops, passes, rejects, carves, visit-shape}
 
 -- every candidate that is met is carved, or rejected for its structure or its time
 pub candidates-add-up : (es : List Event) → length es ≡ length (records es) + structures es + times es

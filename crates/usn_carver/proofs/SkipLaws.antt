@@ -1,16 +1,15 @@
 -- Zero words change nothing of a walk: a word of 8 zero bytes begins with four, which move on 8. Assumes nothing.
-use Prim.Native.Nat.{ℕ, _+_, _*_, _^_, _≤_}
+use Prim.Native.Nat.{ℕ, _+_, _≤_}
 use mathlib.Core.Path.{_≡_, refl, sym, _∙_}
 use mathlib.Core.List.{List, []}
 use native.Mathlib.Omega.{arith}
-use lib.Bits.{bitOr, bitAnd, or-add-and, and-le-l, and-le-r}
+use lib.Bits.{bitOr, or-add-and, and-le-l, and-le-r}
 use lib.ListN.{length}
 use Rattle.walk.specs.Walk.{go}
 use Rattle.walk.proofs.WalkLaws.{left}
 use Rattle.usn_record.specs.Bytes.{leAt}
 use Rattle.usn_record.proofs.ByteLaws.{read-join}
-use Rattle.usn_carver.specs.Settings.{Settings}
-use Rattle.usn_carver.specs.Carve.{visit, eventsFrom}
+use Rattle.usn_carver.specs.Carve.{visit}
 use Rattle.usn_carver.specs.Skip.{Skips}
 use Rattle.usn_carver.proofs.VisitLaws.{passed-zero}
 use Rattle.usn_carver.proofs.RunLaws.{visit-forward}

@@ -1,22 +1,20 @@
 -- Two runs over extracts that differ in carved names alone: no visit reads a byte of a name, save a rejected version 3 candidate 8 bytes
 -- before a carved version 2 record, so without such a pair the runs are the same. Assumes nothing.
 use Prim.Native.Nat.{ℕ, zero, suc, _+_, _-_, _≤_, _<_}
-use mathlib.Core.Path.{_≡_, refl, sym, ap, _∙_}
+use mathlib.Core.Path.{_≡_, refl, sym, ap}
 use mathlib.Core.Logic.{⊎-elim}
-use mathlib.Core.List.{List, [], _∷_, _++_, List·Memᴰ, List·Memᴰ·head, List·Memᴰ·tail, Memᴰ·append-right}
+use mathlib.Core.List.{List, [], _∷_, _++_, List·Memᴰ·head, List·Memᴰ·tail, Memᴰ·append-right}
 use native.Mathlib.Omega.{arith}
-use lib.ListN.{length, getD}
+use lib.ListN.{length}
 use lib.Seq.{ext-getD}
 use Rattle.walk.specs.Agree.{Agree}
 use Rattle.walk.specs.Masked.{Apart, Masked, placesOf}
 use Rattle.walk.specs.Outcome.{Outcome, refused, answered}
 use Rattle.walk.specs.Places.{round8}
-use Rattle.walk.specs.Walk.{Visit, stop, go, after, walk, from}
+use Rattle.walk.specs.Walk.{Visit, go, after, walk, from}
 use Rattle.walk.specs.declared.Place.{Place}
-use Rattle.walk.proofs.AgreeLaws.{agree-in}
 use Rattle.walk.proofs.MaskedLaws.{Same, Before, apart-append, walk-two-runs}
 use Rattle.walk.proofs.WalkLaws.{All, Finds}
-use Rattle.usn_record.specs.Bytes.{leAt}
 use Rattle.usn_record.specs.Names.{fixedOf, nameAt}
 use Rattle.usn_record.specs.Record.{listed}
 use Rattle.usn_record.proofs.NameLaws.{fixed-low, fixed-high, fixed-v2, listed-agrees, name-after-fixed, name-before-end}

@@ -1,6 +1,6 @@
 -- What the second of two carving runs may replace, and where the claim that nothing changes has its exception.
 use Prim.Native.Nat.{ℕ, _+_}
-use mathlib.Core.List.{List, [], _∷_, List·Memᴰ}
+use mathlib.Core.List.{List, [], List·Memᴰ}
 use Rattle.walk.specs.Outcome.{Outcome, refused, answered}
 use Rattle.walk.specs.Masked.{placesOf}
 use Rattle.walk.specs.declared.Place.{Place}

@@ -8,7 +8,7 @@ mod zeros;
 
 ghost use mathlib.Core.Path.{_≡_};
 ghost use lib.ListN.{length};
-ghost use Rattle.usn_carver.specs.Settings.{standard};
+ghost use Rattle.usn_carver.specs.Settings.{standard, settingsOf};
 ghost use Rattle.usn_carver.specs.Carve.{outcome, carving, listAfterCarving};
 use crate::fill::fill_list;
 use crate::fill::has_room;
@@ -39,30 +39,31 @@ pub enum Carving {
 }
 
 // The version 2 and 3 records that stand at multiples of 8 in the extract, as pairs of offset and length from the front of
-// the list on; the words after them are left alone. Each is one that its parser accepts, so none is parsed here.
+// the list on; the words after them are left alone.
 // Refused, with nothing written: 1 the extract is above the domain, 5 there are more records than half the list's words.
 pub fn carve_usn_records(extract: &[u8], list: &mut [usize]) -> Carving
     ensures { λ r. ⌜ outcome r ≡ carving standard (now (extract .entry)) (length (now (list .entry))) ⌝ }
     ensures { λ _. ⌜ now (list .exit) ≡ listAfterCarving standard (now (extract .entry)) (now (list .entry)) ⌝ }
 {
-    if DOMAIN < extract.len() {
-        return Carving::Refused(ABOVE_DOMAIN);
-    }
-    let room = list.len() / 2;
-    if has_room(
+    carve(
         extract,
-        room,
+        list,
         FILETIME_2000,
         FILETIME_2030,
         USN_MAX_RECORD_SIZE,
-    ) {
-        Carving::Carved(fill_list(
-            extract,
-            list,
-            FILETIME_2000,
-            FILETIME_2030,
-            USN_MAX_RECORD_SIZE,
-        ))
+    )
+}
+
+// Carving with any limits: the times from lower to upper, given by their bits, and records of up to largest bytes.
+fn carve(extract: &[u8], list: &mut [usize], lower: u64, upper: u64, largest: usize) -> Carving
+    ensures { λ r. ⌜ outcome r ≡ carving (settingsOf lower upper largest) (now (extract .entry)) (length (now (list .entry))) ⌝ }
+    ensures { λ _. ⌜ now (list .exit) ≡ listAfterCarving (settingsOf lower upper largest) (now (extract .entry)) (now (list .entry)) ⌝ }
+{
+    if DOMAIN < extract.len() {
+        return Carving::Refused(ABOVE_DOMAIN);
+    }
+    if has_room(extract, list.len() / 2, lower, upper, largest) {
+        Carving::Carved(fill_list(extract, list, lower, upper, largest))
     } else {
         Carving::Refused(LIST_FULL)
     }

@@ -1,6 +1,5 @@
 -- The tests in their order.
 use borrow.Author.Needs.{needs}
-use mathlib.Core.Path.{ap}
 use borrow.Author.Tests.{eq-eqb, ne-eqb, lt-ltb, le-ltb}
 use Rattle.usn_carver.proofs.step.bad_name.Statement.{statement}
 use Rattle.usn_carver.proofs.step.bad_name.Tie as tie
