@@ -8,8 +8,7 @@ use Rattle.walk.specs.Outcome.{refused, answered}
 use Rattle.walk.specs.Lists.{flatten, placeWords, overwrite}
 use Rattle.walk.specs.Refusals.{aboveDomain, listFull, domain}
 use Rattle.usn_carver.specs.Settings.{Settings}
-use Rattle.usn_carver.specs.Events.{records, statsOf}
-use Rattle.usn_carver.specs.Carve.{events, carving, listAfterCarving}
+use Rattle.usn_carver.specs.Carve.{events, carving, listAfterCarving, recordsIn, statsIn}
 use Rattle.usn_carver.specs.declared.CarvingStats.{CarvingStats}
 
 module _ (st : Settings) (s : List ℕ) (words : ℕ) where
@@ -17,11 +16,11 @@ module _ (st : Settings) (s : List ℕ) (words : ℕ) where
   unfolding carving
   refused-above-domain h = simp (lt-ltb _ _ h)
 
-  pub refused-list-full : length s ≤ domain → words / 2 < length (records (events st s)) → refused listFull ≡ carving st s words
+  pub refused-list-full : length s ≤ domain → words / 2 < length (recordsIn st s) → refused listFull ≡ carving st s words
   unfolding carving
   refused-list-full a h = simp (le-ltb _ _ a, lt-ltb _ _ h)
 
-  pub answered-carved : {x : CarvingStats} → length s ≤ domain → length (records (events st s)) ≤ words / 2 → x ≡ statsOf (length s) (events st s)
+  pub answered-carved : {x : CarvingStats} → length s ≤ domain → length (recordsIn st s) ≤ words / 2 → x ≡ statsIn st s
       → answered x ≡ carving st s words
   unfolding carving
   answered-carved a b e = ap answered e ∙ simp (le-ltb _ _ a, le-ltb _ _ b)
@@ -30,7 +29,7 @@ module _ (st : Settings) (s l : List ℕ) where
   pub list-kept : {n : ℕ} → refused n ≡ carving st s (length l) → l ≡ listAfterCarving st s l
   list-kept e = rw (← e)
 
-  pub list-filled : {x : CarvingStats} {l′ : List ℕ} → answered x ≡ carving st s (length l) → l′ ≡ overwrite l (flatten placeWords (records (events st s)))
+  pub list-filled : {x : CarvingStats} {l′ : List ℕ} → answered x ≡ carving st s (length l) → l′ ≡ overwrite l (flatten placeWords (recordsIn st s))
       → l′ ≡ listAfterCarving st s l
   list-filled e f = rw (← e) f
 

@@ -19,7 +19,7 @@ use Rattle.usn_record.specs.Record.{recordOf, parsed, listed}
 use Rattle.usn_carver.specs.Settings.{standard}
 use Rattle.usn_carver.specs.Events.{structure, rejected, carved}
 use Rattle.usn_carver.specs.Carve.{judged, visitAs, visit, events, carving}
-use Rattle.usn_carver.specs.Masking.{nameOf, NoOverlap}
+use Rattle.usn_carver.specs.Masking.{nameOf, NoOverlap, carvedNames}
 use Rattle.usn_carver.proofs.TwoRunLaws.{SameCarving, call-two-runs}
 
 -- lists that differ in the middle alone are masked there
@@ -84,19 +84,22 @@ lone-carved : (o v n : ℕ) → NoOverlap (carved o v n ∷ [])
 lone-carved o v n why p m x y =
     ⊎-elim (λ e. let z : _≡_ {A = ℕ} 0 1 = cc in absurd (omega arith)) List·Memᴰ·not-nil (List·Memᴰ·cases-cons x)
 
--- the second run differs, and its call, with a list of two words, comes out the same
+-- the second run differs, in the carved name alone, and its call, with a list of two words, comes out the same
 pub E-differs : E ab ≡ E ax → ⊥
 E-differs e = let z : _≡_ {A = ℕ} 0x62 0x78 = ap (λ (s : List ℕ). getD s 62 0) e in omega arith
 
-pub E-two-runs : SameCarving standard (E ab) (E ax) (0 ∷ 0 ∷ [])
-E-two-runs =
-    call-two-runs standard (E ab) (E ax) (0 ∷ 0 ∷ []) (rw (E-outcome, E-carved) (lone-carved 0 2 64))
-    (rw (E-outcome, E-carved, E-name) (masked-middle (head2 64 125911584000000000 0x100 0 4) ab ax [] refl))
+pub E-masked : Masked (E ab) (E ax) (carvedNames standard (E ab) 2)
+E-masked = rw (E-outcome, E-carved, E-name) (masked-middle (head2 64 125911584000000000 0x100 0 4) ab ax [] refl)
 
--- A version 2 record at 8 whose name's third and fourth unit are the name length and the name offset of a version 3 candidate at 0.
+pub E-two-runs : SameCarving standard (E ab) (E ax) (0 ∷ 0 ∷ [])
+E-two-runs = call-two-runs standard (E ab) (E ax) (0 ∷ 0 ∷ []) (rw (E-outcome, E-carved) (lone-carved 0 2 64)) E-masked
+
+-- A version 2 record at 8 whose name's third and fourth unit are the name length and the name offset of a version 3 candidate at 0; its
+-- reason and source are that candidate's time.
 abbrev overlap : List ℕ → List ℕ
 overlap name = (num 4 80 ++ num 2 3 ++ num 2 0 ++ head2 68 125911584000000000 0x256d4000 0x1bf53eb 8) ++ (name ++ num 4 0)
 
+-- units that are no name offset, and units 2 and 76 that make a name of version 3
 abbrev abcd : List ℕ
 abcd = num 2 0x61 ++ num 2 0x62 ++ num 2 0x63 ++ num 2 0x64
 

@@ -11,13 +11,13 @@ use Rattle.walk.proofs.ListLaws.{Writing, writing-start, writing-skip, writing-
 use Rattle.walk.proofs.WalkLaws.{Left}
 use Rattle.usn_carver.specs.Settings.{Settings}
 use Rattle.usn_carver.specs.Events.{structure, time, Event, rejected, carved, records, structures, times, statsOf}
-use Rattle.usn_carver.specs.Carve.{visit, eventsFrom, events}
+use Rattle.usn_carver.specs.Carve.{visit, eventsFrom, events, recordsIn, statsIn}
 use Rattle.usn_carver.specs.Skip.{Skips}
 use Rattle.usn_carver.specs.declared.CarvingStats.{CarvingStats}
 
 -- So many records were met before o.
 pub record Counting (st : Settings) (s : List ℕ) (n o : ℕ) : Type 0 where
-  pub carved : n + length (records (eventsFrom st s o)) ≡ length (records (events st s))
+  pub carved : n + length (records (eventsFrom st s o)) ≡ length (recordsIn st s)
   pub near : n ≤ o
 
 -- equal events have equally many records
@@ -44,7 +44,7 @@ stats-are x size es a b c d e =
 
 -- The list was l₀ and is l, and before o the run counted what x says.
 pub record Filling (st : Settings) (s l₀ l : List ℕ) (x : CarvingStats) (o : ℕ) : Type 0 where
-  pub written : Writing placeWords 2 l₀ l (2 * x .«records_carved») (records (eventsFrom st s o)) (records (events st s))
+  pub written : Writing placeWords 2 l₀ l (2 * x .«records_carved») (records (eventsFrom st s o)) (recordsIn st s)
   pub bytes : x .«bytes_scanned» ≡ length s
   pub candidates : x .«candidates_examined» + length (eventsFrom st s o) ≡ length (events st s)
   pub structure : x .«rejected_structure» + structures (eventsFrom st s o) ≡ structures (events st s)
@@ -57,7 +57,7 @@ pub filling-start : (st : Settings) (s l : List ℕ) {x : CarvingStats} → x �
 filling-start st s l e =
     rw e
     (record {
-      written = writing-start placeWords 2 l (records (events st s));
+      written = writing-start placeWords 2 l (recordsIn st s);
       bytes = refl;
       candidates = omega arith;
       structure = omega arith;
@@ -127,7 +127,7 @@ module _ {st : Settings} {s l₀ l : List ℕ} {x : CarvingStats} {o : ℕ} (f :
 
   -- a carved record has room, and is written
   module _ (v n p : ℕ) (w : Left (visit st s) (length s) o (go (carved o v n ∷ []) p)) where
-    pub filling-room : length (records (events st s)) ≤ length l₀ / 2 → 2 * x .«records_carved» + 2 ≤ length l
+    pub filling-room : length (recordsIn st s) ≤ length l₀ / 2 → 2 * x .«records_carved» + 2 ≤ length l
     filling-room h = writing-room placeWords 2 (λ _. refl) (f .written) (ap records (w .0)) h
 
     pub filling-carved : {l′ : List ℕ} → l′ ≡ sets l (2 * x .«records_carved») (o ∷ n ∷ [])
@@ -153,7 +153,7 @@ module _ {st : Settings} {s l₀ l : List ℕ} {x : CarvingStats} {o : ℕ} (f :
 
   -- where nothing is left, the counters and the list are those of the whole
   module _ (w : eventsFrom st s o ≡ []) where
-    pub filling-stats : x ≡ statsOf (length s) (events st s)
+    pub filling-stats : x ≡ statsIn st s
     filling-stats =
         stats-are x (length s) (events st s) (f .bytes)
         (omega (arith, f .candidates, ap length w))
@@ -161,5 +161,5 @@ module _ {st : Settings} {s l₀ l : List ℕ} {x : CarvingStats} {o : ℕ} (f :
         (omega (arith, f .time, ap times w))
         (omega (arith, f .structure, ap structures w))
 
-    pub filling-end : length (records (events st s)) ≤ length l₀ / 2 → l ≡ overwrite l₀ (flatten placeWords (records (events st s)))
+    pub filling-end : length (recordsIn st s) ≤ length l₀ / 2 → l ≡ overwrite l₀ (flatten placeWords (recordsIn st s))
     filling-end h = writing-end placeWords 2 (λ _. refl) (f .written) (ap records w) h

@@ -4,7 +4,7 @@ pub mod RunLaws
 pub mod SkipLaws
 pub mod FillLaws
 pub mod CallLaws
-pub mod RecordLaws
+pub mod CandidateLaws
 pub mod ReadLaws
 pub mod TwoRunLaws
 pub mod Examples

@@ -14,16 +14,17 @@ use Rattle.walk.specs.Places.{round8}
 use Rattle.walk.specs.Walk.{Visit, go, after, walk, from}
 use Rattle.walk.specs.declared.Place.{Place}
 use Rattle.walk.proofs.MaskedLaws.{Same, Before, apart-append, walk-two-runs}
-use Rattle.walk.proofs.WalkLaws.{All, Finds}
+use Rattle.walk.proofs.WalkLaws.{Forward, All, Finds}
 use Rattle.usn_record.specs.Names.{fixedOf, nameAt}
 use Rattle.usn_record.specs.Record.{listed}
 use Rattle.usn_record.proofs.NameLaws.{fixed-low, fixed-high, fixed-v2, listed-agrees, name-after-fixed, name-before-end}
 use Rattle.usn_carver.specs.Settings.{Settings}
 use Rattle.usn_carver.specs.Events.{Reason, Event, rejected, carved, records}
-use Rattle.usn_carver.specs.Carve.{visit, events, carving, listAfterCarving}
+use Rattle.usn_carver.specs.Carve.{visit, events, carving, listAfterCarving, recordsIn}
 use Rattle.usn_carver.specs.Masking.{nameOf, NoOverlap, IfAnswered, listIfAnswered, carvedRecords, carvedNames}
 use Rattle.usn_carver.specs.declared.CarvingStats.{CarvingStats}
 use Rattle.usn_carver.proofs.VisitLaws.{Candidate, Shape, stops, passes, rejects, carves, visit-shape}
+use Rattle.usn_carver.proofs.RunLaws.{visit-forward}
 use Rattle.usn_carver.proofs.CallLaws.{outcome-agrees}
 use Rattle.usn_carver.proofs.ReadLaws.{reach, visit-reads}
 
@@ -97,11 +98,8 @@ module _ (st : Settings) (s : List ℕ) where
       after-clear (visit-shape st s o) (walk (visit st s) k) i g b (λ p. walk-low k p i) (λ why. walk-next k o i why)
 
   -- what the engine asks of one visit
-  shape-forward : (o p : ℕ) (es : List Event) {x : Visit Event} → Shape st s o x → x ≡ go es p → o ≤ p
-  shape-forward o p es (stops h) e = absurd (let z : _≡_ {A = ℕ} 0 1 = cc in omega arith)
-  shape-forward o p es (passes h) e = let z : o + 8 ≡ p = cc in omega arith
-  shape-forward o p es (rejects why v n h k) e = let z : o + 8 ≡ p = cc in omega arith
-  shape-forward o p es (carves v n h k) e = let z : o + round8 n ≡ p = cc in omega arith
+  forward : (o p : ℕ) (es : List Event) → visit st s o ≡ go es p → o ≤ p
+  forward o p es e = let f : Forward (length s) o (go es p) = rw e at (visit-forward st s o) in omega arith
 
   shape-before : {o : ℕ} {x : Visit Event} → Shape st s o x → Before (nameOf s) x
   shape-before (stops h) = tt
@@ -130,11 +128,11 @@ unfolding from
 carve-two-runs st s t g m =
     rw (m .long)
     (walk-two-runs s t (nameOf s) (visit st s) (visit st t) (SameRecord s t) NoOverlap no-overlap-rest
-    (λ o p es e. shape-forward st s o p es (visit-shape st s o) e) (λ o. shape-before st s (visit-shape st s o)) (reads st s t (m .long))
+    (forward st s) (λ o. shape-before st s (visit-shape st s o)) (reads st s t (m .long))
     (length s - 0) 0 g (λ i _ a. m .same i a))
 
 -- the names of the carved events are those of the records in the list
-names-of : (s : List ℕ) (es : List Event) → placesOf (nameOf s) es ≡ placesOf (λ p. nameAt s (p .offset)) (records es)
+pub names-of : (s : List ℕ) (es : List Event) → placesOf (nameOf s) es ≡ placesOf (λ p. nameAt s (p .offset)) (records es)
 names-of s [] = refl
 names-of s (rejected why o v ∷ es) = names-of s es
 names-of s (carved o v n ∷ es) = ap (λ (ps : List Place). nameAt s o ++ ps) (names-of s es)
@@ -157,7 +155,7 @@ module _ (st : Settings) (s t l : List ℕ) where
   nowhere m = ext-getD 0 t s (m .long) (λ i _. m .same i tt)
 
   same-carving : (x : Outcome CarvingStats) → carving st s (length l) ≡ x → IfAnswered x (NoOverlap (events st s))
-      → Masked s t (placesOf (λ p. nameAt s (p .offset)) (listIfAnswered x (records (events st s)))) → SameCarving st s t l
+      → Masked s t (placesOf (λ p. nameAt s (p .offset)) (listIfAnswered x (recordsIn st s))) → SameCarving st s t l
   same-carving (refused n) e g m =
       rw (nowhere m) (record { outcome = refl; list = refl; places = refl; parsed = rw e tt })
   same-carving (answered a) e g m =

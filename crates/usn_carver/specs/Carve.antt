@@ -13,6 +13,7 @@ use Rattle.walk.specs.Lists.{flatten, placeWords, listAfter}
 use Rattle.walk.specs.Places.{round8}
 use Rattle.walk.specs.Refusals.{aboveDomain, listFull, domain}
 use Rattle.walk.specs.Walk.{Visit, stop, go, from}
+use Rattle.walk.specs.declared.Place.{Place}
 use Rattle.usn_record.specs.Bytes.{leAt}
 use Rattle.usn_record.specs.Layout.{Layout, layoutAt, v2, v3}
 use Rattle.usn_carver.specs.Settings.{Settings}
@@ -80,16 +81,23 @@ eventsFrom st s = from (visit st s) (length s)
 abbrev pub events : Settings → List ℕ → List Event
 events st s = eventsFrom st s 0
 
+-- its records, in order, and its counters
+abbrev pub recordsIn : Settings → List ℕ → List Place
+recordsIn st s = records (events st s)
+
+abbrev pub statsIn : Settings → List ℕ → CarvingStats
+statsIn st s = statsOf (length s) (events st s)
+
 -- the outcome of a call whose list has so many words, two for a record
 unfoldable pub carving : Settings → List ℕ → ℕ → Outcome CarvingStats
 carving st s words =
     cond (ltb domain (length s)) (refused aboveDomain)
-    (cond (ltb (words / 2) (length (records (events st s)))) (refused listFull)
-    (answered (statsOf (length s) (events st s))))
+    (cond (ltb (words / 2) (length (recordsIn st s))) (refused listFull)
+    (answered (statsIn st s)))
 
 -- what the lent list l holds after that call
 abbrev pub listAfterCarving : Settings → List ℕ → List ℕ → List ℕ
-listAfterCarving st s l = listAfter (λ _. flatten placeWords (records (events st s))) (carving st s (length l)) l
+listAfterCarving st s l = listAfter (λ _. flatten placeWords (recordsIn st s)) (carving st s (length l)) l
 
 -- what the call's answer says
 abbrev pub outcome : Carving → Outcome CarvingStats

@@ -6,8 +6,8 @@ use Rattle.walk.specs.Masked.{placesOf}
 use Rattle.walk.specs.declared.Place.{Place}
 use Rattle.usn_record.specs.Names.{nameAt}
 use Rattle.usn_carver.specs.Settings.{Settings}
-use Rattle.usn_carver.specs.Events.{Reason, Event, rejected, carved, records}
-use Rattle.usn_carver.specs.Carve.{events, carving}
+use Rattle.usn_carver.specs.Events.{Reason, Event, rejected, carved}
+use Rattle.usn_carver.specs.Carve.{recordsIn, carving}
 
 -- the name of a carved record
 abbrev pub nameOf : List ℕ → Event → List Place
@@ -30,7 +30,7 @@ listIfAnswered (answered a) xs = xs
 
 -- the records that a call with a list of so many words lists, and their names
 abbrev pub carvedRecords : Settings → List ℕ → ℕ → List Place
-carvedRecords st s words = listIfAnswered (carving st s words) (records (events st s))
+carvedRecords st s words = listIfAnswered (carving st s words) (recordsIn st s)
 
 abbrev pub carvedNames : Settings → List ℕ → ℕ → List Place
 carvedNames st s words = placesOf (λ p. nameAt s (p .offset)) (carvedRecords st s words)

@@ -6,8 +6,8 @@ ghost use lib.ListN.{length};
 ghost use lib.Dec.{leb};
 ghost use Rattle.walk.specs.Lists.{flatten, placeWords, overwrite};
 ghost use Rattle.usn_carver.specs.Settings.{settingsOf};
-ghost use Rattle.usn_carver.specs.Events.{records, statsOf};
-ghost use Rattle.usn_carver.specs.Carve.{events};
+ghost use Rattle.usn_carver.specs.Events.{statsOf};
+ghost use Rattle.usn_carver.specs.Carve.{recordsIn, statsIn};
 use crate::CarvingStats;
 use crate::step::CarveStep;
 use crate::step::carve_step;
@@ -16,7 +16,7 @@ use crate::zeros::skip_zeros;
 // Whether the records to be carved are no more than room. None is counted where room is enough for any extract so long: a
 // carved record takes 64 bytes, of which the last may lack 4.
 pub fn has_room(extract: &[u8], room: usize, lower: u64, upper: u64, largest: usize) -> bool
-    ensures { λ r. ⌜ r ≡ leb (length (records (events (settingsOf lower upper largest) (now (extract .entry))))) room ⌝ }
+    ensures { λ r. ⌜ r ≡ leb (length (recordsIn (settingsOf lower upper largest) (now (extract .entry)))) room ⌝ }
 {
     if (extract.len() + 4) / 64 <= room {
         return true;
@@ -26,7 +26,7 @@ pub fn has_room(extract: &[u8], room: usize, lower: u64, upper: u64, largest: us
 
 // How many records are carved.
 fn count_records(extract: &[u8], lower: u64, upper: u64, largest: usize) -> usize
-    ensures { λ r. ⌜ r ≡ length (records (events (settingsOf lower upper largest) (now (extract .entry)))) ⌝ }
+    ensures { λ r. ⌜ r ≡ length (recordsIn (settingsOf lower upper largest) (now (extract .entry))) ⌝ }
 {
     let mut n: usize = 0;
     let mut o: usize = 0;
@@ -55,9 +55,9 @@ pub fn fill_list(
     upper: u64,
     largest: usize,
 ) -> CarvingStats
-    requires { ⌜ length (records (events (settingsOf lower upper largest) (now extract))) ≤ length (now list) / 2 ⌝ }
-    ensures { λ r. ⌜ r ≡ statsOf (length (now (extract .entry))) (events (settingsOf lower upper largest) (now (extract .entry))) ⌝ }
-    ensures { λ _. ⌜ now (list .exit) ≡ overwrite (now (list .entry)) (flatten placeWords (records (events (settingsOf lower upper largest) (now (extract .entry))))) ⌝ }
+    requires { ⌜ length (recordsIn (settingsOf lower upper largest) (now extract)) ≤ length (now list) / 2 ⌝ }
+    ensures { λ r. ⌜ r ≡ statsIn (settingsOf lower upper largest) (now (extract .entry)) ⌝ }
+    ensures { λ _. ⌜ now (list .exit) ≡ overwrite (now (list .entry)) (flatten placeWords (recordsIn (settingsOf lower upper largest) (now (extract .entry)))) ⌝ }
 {
     let mut stats = nothing_met(extract.len());
     let mut o: usize = 0;

@@ -38,8 +38,8 @@ pub enum Carving {
     Refused(u32),
 }
 
-// The version 2 and 3 records that stand at multiples of 8 in the extract, as pairs of offset and length from the front of
-// the list on; the words after them are left alone.
+// The records found at multiples of 8: of version 2 or 3, whole, with a name right after the fixed part and a time within the
+// limits. Their offsets and lengths go as pairs to the front of the list; the words after them are left alone.
 // Refused, with nothing written: 1 the extract is above the domain, 5 there are more records than half the list's words.
 pub fn carve_usn_records(extract: &[u8], list: &mut [usize]) -> Carving
     ensures { λ r. ⌜ outcome r ≡ carving standard (now (extract .entry)) (length (now (list .entry))) ⌝ }

@@ -46,7 +46,7 @@ pub fn carve_step(extract: &[u8], o: usize, lower: u64, upper: u64, largest: usi
 
 // The visit where the version's fields from the USN on begin at tail. These numbers are parameters and no struct, so that
 // the compiler makes one function with constant offsets for each version. The record is not parsed here: its parser accepts
-// every candidate (proofs/RecordLaws, candidate-parsed).
+// every candidate (proofs/CandidateLaws, candidate-parsed).
 fn examine(
     extract: &[u8],
     o: usize,

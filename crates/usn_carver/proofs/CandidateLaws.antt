@@ -22,7 +22,7 @@ use Rattle.usn_record.proofs.RecordLaws.{v2-inside, v3-inside, part-accepted, l
 use Rattle.usn_record.proofs.NameLaws.{fixed-low}
 use Rattle.usn_carver.specs.Settings.{Settings}
 use Rattle.usn_carver.specs.Events.{Event, rejected, carved, records}
-use Rattle.usn_carver.specs.Carve.{visit, events}
+use Rattle.usn_carver.specs.Carve.{visit, events, recordsIn}
 use Rattle.usn_carver.proofs.VisitLaws.{Candidate, Shape, stops, passes, rejects, carves, visit-shape}
 
 -- the layout of version 2 or 3
@@ -76,5 +76,5 @@ module _ (st : Settings) (s : List ℕ) (small : length s ≤ domain) (most : st
       let k = h .0 in
       (record { size = k .size; inside = k .inside; accepted = rw (← k .version) (candidate-listed k) }, records-of es (h .1))
 
-  pub records-listed : All (IsRecord s) (records (events st s))
+  pub records-listed : All (IsRecord s) (recordsIn st s)
   records-listed = records-of (events st s) (events-met st s)
