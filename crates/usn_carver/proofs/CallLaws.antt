@@ -8,7 +8,7 @@ use Rattle.walk.specs.Outcome.{refused, answered}
 use Rattle.walk.specs.Lists.{flatten, placeWords, overwrite}
 use Rattle.walk.specs.Refusals.{aboveDomain, listFull, domain}
 use Rattle.usn_carver.specs.Settings.{Settings}
-use Rattle.usn_carver.specs.Carve.{events, carving, listAfterCarving, recordsIn, statsIn}
+use Rattle.usn_carver.specs.Carve.{events, carving, carvingList, recordsIn, statsIn}
 use Rattle.usn_carver.specs.declared.CarvingStats.{CarvingStats}
 
 module _ (st : Settings) (s : List ℕ) (words : ℕ) where
@@ -26,11 +26,11 @@ module _ (st : Settings) (s : List ℕ) (words : ℕ) where
   answered-carved a b e = ap answered e ∙ simp (le-ltb _ _ a, le-ltb _ _ b)
 
 module _ (st : Settings) (s l : List ℕ) where
-  pub list-kept : {n : ℕ} → refused n ≡ carving st s (length l) → l ≡ listAfterCarving st s l
+  pub list-kept : {n : ℕ} → refused n ≡ carving st s (length l) → l ≡ carvingList st s l
   list-kept e = rw (← e)
 
   pub list-filled : {x : CarvingStats} {l′ : List ℕ} → answered x ≡ carving st s (length l) → l′ ≡ overwrite l (flatten placeWords (recordsIn st s))
-      → l′ ≡ listAfterCarving st s l
+      → l′ ≡ carvingList st s l
   list-filled e f = rw (← e) f
 
 -- runs with the same events come out the same

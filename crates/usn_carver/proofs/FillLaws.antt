@@ -12,7 +12,7 @@ use Rattle.walk.proofs.WalkLaws.{Left}
 use Rattle.usn_carver.specs.Settings.{Settings}
 use Rattle.usn_carver.specs.Events.{structure, time, Event, rejected, carved, records, structures, times, statsOf}
 use Rattle.usn_carver.specs.Carve.{visit, eventsFrom, events, recordsIn, statsIn}
-use Rattle.usn_carver.specs.Skip.{Skips}
+use Rattle.usn_carver.specs.Step.{Skips}
 use Rattle.usn_carver.specs.declared.CarvingStats.{CarvingStats}
 
 -- So many records were met before o.

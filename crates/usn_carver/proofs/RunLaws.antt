@@ -11,7 +11,8 @@ use Rattle.walk.proofs.WalkLaws.{Forward, Left, left, All}
 use Rattle.usn_record.proofs.NameLaws.{fixed-low}
 use Rattle.usn_carver.specs.Settings.{Settings}
 use Rattle.usn_carver.specs.Events.{structure, time, Event, rejected, carved, records, structures, times}
-use Rattle.usn_carver.specs.Carve.{visit, events, visitOf, recordsIn}
+use Rattle.usn_carver.specs.Carve.{visit, events, recordsIn}
+use Rattle.usn_carver.specs.Step.{visitOf}
 use Rattle.usn_carver.specs.declared.step.CarveStep.{CarveStep}
 use Rattle.usn_carver.proofs.VisitLaws.{Shape, stops, passes, rejects, carves, visit-shape}
 

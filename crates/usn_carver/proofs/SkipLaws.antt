@@ -10,7 +10,7 @@ use Rattle.walk.proofs.WalkLaws.{left}
 use Rattle.usn_record.specs.Bytes.{leAt}
 use Rattle.usn_record.proofs.ByteLaws.{read-join}
 use Rattle.usn_carver.specs.Carve.{visit}
-use Rattle.usn_carver.specs.Skip.{Skips}
+use Rattle.usn_carver.specs.Step.{Skips}
 use Rattle.usn_carver.proofs.VisitLaws.{passed-zero}
 use Rattle.usn_carver.proofs.RunLaws.{visit-forward}
 

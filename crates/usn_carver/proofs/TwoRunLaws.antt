@@ -20,7 +20,7 @@ use Rattle.usn_record.specs.Record.{listed}
 use Rattle.usn_record.proofs.NameLaws.{fixed-low, fixed-high, fixed-v2, listed-agrees, name-after-fixed, name-before-end}
 use Rattle.usn_carver.specs.Settings.{Settings}
 use Rattle.usn_carver.specs.Events.{Reason, Event, rejected, carved, records}
-use Rattle.usn_carver.specs.Carve.{visit, events, carving, listAfterCarving, recordsIn}
+use Rattle.usn_carver.specs.Carve.{visit, events, carving, carvingList, recordsIn}
 use Rattle.usn_carver.specs.Masking.{nameOf, NoOverlap, IfAnswered, listIfAnswered, carvedRecords, carvedNames}
 use Rattle.usn_carver.specs.declared.CarvingStats.{CarvingStats}
 use Rattle.usn_carver.proofs.VisitLaws.{Candidate, Shape, stops, passes, rejects, carves, visit-shape}
@@ -145,7 +145,7 @@ same-of s t (carved o v n ∷ es) h = (h .0, same-of s t es (h .1))
 -- a call over t, with the same list, comes out as that over s
 pub record SameCarving (st : Settings) (s t l : List ℕ) : Type 0 where
   pub outcome : carving st t (length l) ≡ carving st s (length l)
-  pub list : listAfterCarving st t l ≡ listAfterCarving st s l
+  pub list : carvingList st t l ≡ carvingList st s l
   pub places : carvedRecords st t (length l) ≡ carvedRecords st s (length l)
   pub parsed : All (λ p. listed t (p .offset) ≡ listed s (p .offset)) (carvedRecords st s (length l))
 

@@ -17,7 +17,8 @@ use Rattle.usn_record.specs.Layout.{Layout, v2, v3}
 use Rattle.usn_record.specs.Names.{fixedOf}
 use Rattle.usn_carver.specs.Settings.{Settings}
 use Rattle.usn_carver.specs.Events.{Reason, structure, time, Event, rejected, carved}
-use Rattle.usn_carver.specs.Carve.{Header, badName, badTime, isCandidate, headerAt, judged, layoutFrom, visitAs, visit}
+use Rattle.usn_carver.specs.Carve.{Header, badName, badTime, isCandidate, headerAt, judged, visitAs, visit}
+use Rattle.usn_carver.specs.Step.{layoutFrom}
 
 -- the ways out of a visit by a layout, with n the length as it was read
 module _ (st : Settings) (l : Layout) (s : List ℕ) (o : ℕ) {n : ℕ} (e : n ≡ leAt 4 s o) where

@@ -1,7 +1,7 @@
 -- The carving of USN records from raw bytes: the rule for one offset, the events of a whole extract, and the outcome of the call.
 use Prim.Native.Nat.{ℕ, _+_, _/_, _%_}
 use mathlib.Core.List.{List, [], _∷_}
-use mathlib.Core.Bool.{Bool, false, cond, not, _&&_, _||_}
+use mathlib.Core.Bool.{Bool, cond, not, _&&_, _||_}
 use lib.IntN.{ℤ}
 use lib.ListN.{length}
 use lib.Dec.{ltb, leb, eqb}
@@ -15,13 +15,12 @@ use Rattle.walk.specs.Refusals.{aboveDomain, listFull, domain}
 use Rattle.walk.specs.Walk.{Visit, stop, go, from}
 use Rattle.walk.specs.declared.Place.{Place}
 use Rattle.usn_record.specs.Bytes.{leAt}
-use Rattle.usn_record.specs.Layout.{Layout, layoutAt, v2, v3}
+use Rattle.usn_record.specs.Layout.{Layout, v2, v3}
 use Rattle.usn_carver.specs.Settings.{Settings}
 use Rattle.usn_carver.specs.Events.{Event, structure, time, rejected, carved, records, statsOf}
 use Rattle.usn_carver.specs.declared.Carving.{Carving}
 use Rattle.usn_carver.specs.declared.Carving.the-variants.{Carved, Refused}
 use Rattle.usn_carver.specs.declared.CarvingStats.{CarvingStats}
-use Rattle.usn_carver.specs.declared.step.CarveStep as step
 
 -- the numbers that decide on a candidate, beside its version
 pub record Header : Type 0 where
@@ -96,23 +95,10 @@ carving st s words =
     (answered (statsIn st s)))
 
 -- what the lent list l holds after that call
-abbrev pub listAfterCarving : Settings → List ℕ → List ℕ → List ℕ
-listAfterCarving st s l = listAfter (λ _. flatten placeWords (recordsIn st s)) (carving st s (length l)) l
+abbrev pub carvingList : Settings → List ℕ → List ℕ → List ℕ
+carvingList st s l = listAfter (λ _. flatten placeWords (recordsIn st s)) (carving st s (length l)) l
 
 -- what the call's answer says
 abbrev pub outcome : Carving → Outcome CarvingStats
 outcome (Carved stats) = answered stats
 outcome (Refused n) = refused n
-
--- a version's layout by the offset of its USN, from which on lies all that carving reads
-abbrev pub layoutFrom : ℕ → ℕ → Layout
-layoutFrom tail version = layoutAt 0 tail false false false version
-
--- what a step of the code at o says
-abbrev pub visitOf : ℕ → step.CarveStep → Visit Event
-visitOf o step.the-variants.Stop = stop
-visitOf o (step.the-variants.Zero p) = go [] p
-visitOf o (step.the-variants.Move p) = go [] p
-visitOf o (step.the-variants.BadStructure v p) = go (rejected structure o v ∷ []) p
-visitOf o (step.the-variants.BadTime v p) = go (rejected time o v ∷ []) p
-visitOf o (step.the-variants.Carved v n p) = go (carved o v n ∷ []) p

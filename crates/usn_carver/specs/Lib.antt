@@ -1,5 +1,5 @@
 pub mod Settings
 pub mod Events
 pub mod Carve
-pub mod Skip
+pub mod Step
 pub mod Masking

@@ -9,7 +9,7 @@ mod zeros;
 ghost use mathlib.Core.Path.{_≡_};
 ghost use lib.ListN.{length};
 ghost use Rattle.usn_carver.specs.Settings.{standard, settingsOf};
-ghost use Rattle.usn_carver.specs.Carve.{outcome, carving, listAfterCarving};
+ghost use Rattle.usn_carver.specs.Carve.{outcome, carving, carvingList};
 use crate::fill::fill_list;
 use crate::fill::has_room;
 use walk::ABOVE_DOMAIN;
@@ -43,7 +43,7 @@ pub enum Carving {
 // Refused, with nothing written: 1 the extract is above the domain, 5 there are more records than half the list's words.
 pub fn carve_usn_records(extract: &[u8], list: &mut [usize]) -> Carving
     ensures { λ r. ⌜ outcome r ≡ carving standard (now (extract .entry)) (length (now (list .entry))) ⌝ }
-    ensures { λ _. ⌜ now (list .exit) ≡ listAfterCarving standard (now (extract .entry)) (now (list .entry)) ⌝ }
+    ensures { λ _. ⌜ now (list .exit) ≡ carvingList standard (now (extract .entry)) (now (list .entry)) ⌝ }
 {
     carve(
         extract,
@@ -57,7 +57,7 @@ pub fn carve_usn_records(extract: &[u8], list: &mut [usize]) -> Carving
 // Carving with any limits: the times from lower to upper, given by their bits, and records of up to largest bytes.
 fn carve(extract: &[u8], list: &mut [usize], lower: u64, upper: u64, largest: usize) -> Carving
     ensures { λ r. ⌜ outcome r ≡ carving (settingsOf lower upper largest) (now (extract .entry)) (length (now (list .entry))) ⌝ }
-    ensures { λ _. ⌜ now (list .exit) ≡ listAfterCarving (settingsOf lower upper largest) (now (extract .entry)) (now (list .entry)) ⌝ }
+    ensures { λ _. ⌜ now (list .exit) ≡ carvingList (settingsOf lower upper largest) (now (extract .entry)) (now (list .entry)) ⌝ }
 {
     if DOMAIN < extract.len() {
         return Carving::Refused(ABOVE_DOMAIN);

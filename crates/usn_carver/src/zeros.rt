@@ -1,5 +1,5 @@
 // Passing zero bytes, of which raw disk data is full.
-ghost use Rattle.usn_carver.specs.Skip.{Skips};
+ghost use Rattle.usn_carver.specs.Step.{Skips};
 use usn_record::bytes::le_u64;
 
 // An offset from o on up to which there are zero words alone, four of 8 bytes a turn. It changes nothing of the walk.

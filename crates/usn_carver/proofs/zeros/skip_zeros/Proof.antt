@@ -2,7 +2,7 @@
 use Prim.Native.Nat.{_-_}
 use native.Mathlib.Omega.{arith}
 use lib.ListN.{length}
-use Rattle.usn_carver.specs.Skip.{Skips}
+use Rattle.usn_carver.specs.Step.{Skips}
 use Rattle.usn_carver.proofs.SkipLaws.{skips-none, skips-four}
 use Rattle.usn_carver.proofs.zeros.skip_zeros.Statement.{statement}
 use Rattle.usn_carver.proofs.zeros.skip_zeros.Tie as tie
