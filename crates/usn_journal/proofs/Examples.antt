@@ -13,7 +13,7 @@ use Rattle.usn_record.specs.Bytes.{le, leAt, leBytes}
 use Rattle.usn_record.specs.Fields.{filenameOf}
 use Rattle.usn_record.specs.Record.{recordOf, parsed, listed}
 use Rattle.usn_record.specs.Names.{nameAt}
-use Rattle.usn_record.specs.Sample.{header, sampleFixed, sampleRecord, recordE}
+use Rattle.usn_record.specs.Sample.{header, createdFixed, sampleRecord, recordE}
 use Rattle.usn_journal.specs.Scan.{kindByVersion, kindOf, visit, scanned}
 use Rattle.usn_journal.specs.Outcome.{scan, scanAnswer, scanList}
 use Rattle.usn_journal.proofs.TwoRunLaws.{scan-two-runs}
@@ -40,7 +40,7 @@ names-E = refl
 
 pub E-masked : Masked recordE (sampleRecord 0x63 0x62) (placesOf (λ p. nameAt recordE (p .offset)) (scanned recordE))
 E-masked =
-    rw names-E (masked-middle (sampleFixed 64 125911584000000000 4 60) (leBytes 2 0x61 ++ leBytes 2 0x62) (leBytes 2 0x63 ++ leBytes 2 0x62) [] refl)
+    rw names-E (masked-middle createdFixed (leBytes 2 0x61 ++ leBytes 2 0x62) (leBytes 2 0x63 ++ leBytes 2 0x62) [] refl)
 
 pub E-differs : sampleRecord 0x63 0x62 ≡ recordE → ⊥
 E-differs e = let z : _≡_ {A = ℕ} 0x63 0x61 = ap (λ (s : List ℕ). getD s 60 0) e in omega arith

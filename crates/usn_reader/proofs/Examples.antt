@@ -11,7 +11,7 @@ use Rattle.usn_record.specs.Bytes.{le, leAt, leBytes}
 use Rattle.usn_record.specs.Fields.{filenameOf}
 use Rattle.usn_record.specs.Record.{recordOf, parsed, listed}
 use Rattle.usn_record.specs.Names.{nameAt}
-use Rattle.usn_record.specs.Sample.{sampleFixed, sampleRecord, recordE}
+use Rattle.usn_record.specs.Sample.{createdFixed, sampleRecord, recordE}
 use Rattle.usn_reader.specs.Window.{windowSize, wrongEnd, wrongNumbers, refusalOf, wantedOf}
 use Rattle.usn_reader.specs.Rule.{namedFrom, byLength, turnOf, turns, searched}
 use Rattle.usn_reader.specs.Calls.{nextOf, giveRefusal, giveOf, bufferAfter}
@@ -61,7 +61,7 @@ module _ (b c : List ℕ) (eb : length b ≡ windowSize) (ec : length c ≡ wind
 
   masked-E : Masked recordE other (placesOf (λ p. nameAt recordE (p .offset)) (givenBy (readings (calls recordE) (freshOver recordE b))))
   masked-E =
-      rw names-E (masked-middle (sampleFixed 64 125911584000000000 4 60) (leBytes 2 0x61 ++ leBytes 2 0x62) (leBytes 2 0x63 ++ leBytes 2 0x62) [] refl)
+      rw names-E (masked-middle createdFixed (leBytes 2 0x61 ++ leBytes 2 0x62) (leBytes 2 0x63 ++ leBytes 2 0x62) [] refl)
 
   pub alike : readings (calls other) (freshOver other c) ≡ readings (calls recordE) (freshOver recordE b)
   alike = (window-two-runs recordE other b c eb ec (calls recordE) (calls other) refl (carries recordE b refl eb) (carries other c refl ec) masked-E) .0

@@ -12,25 +12,29 @@ reference entry sequence = leBytes 8 (entry + sequence * 2 ^ 48)
 abbrev pub header : ℕ → ℕ → List ℕ
 header n version = leBytes 4 n ++ (leBytes 2 version ++ leBytes 2 0)
 
--- the fixed part of a version 2 record of n bytes: file 42:3 in folder 5:5, USN 4096, created at a FILETIME, with a name of so many bytes at
--- an offset
-abbrev pub sampleFixed : ℕ → ℕ → ℕ → ℕ → List ℕ
-sampleFixed n time nameLength nameOffset =
+-- the fixed part of a version 2 record of n bytes: file 42:3 in folder 5:5, USN 4096, with a FILETIME, a reason and a source, and a name of so
+-- many bytes at an offset
+abbrev pub sampleFixed : ℕ → ℕ → ℕ → ℕ → ℕ → ℕ → List ℕ
+sampleFixed n time reason source nameLength nameOffset =
     header n 2
     ++ (reference 42 3
     ++ (reference 5 5
     ++ (leBytes 8 4096
     ++ (leBytes 8 time
-    ++ (leBytes 4 0x100
-    ++ (leBytes 4 0
+    ++ (leBytes 4 reason
+    ++ (leBytes 4 source
     ++ (leBytes 4 0
     ++ (leBytes 4 0x20
     ++ (leBytes 2 nameLength
     ++ leBytes 2 nameOffset)))))))))
 
--- that record with a name of two units
+-- a file created at the start of 2000
+abbrev pub createdFixed : List ℕ
+createdFixed = sampleFixed 64 125911584000000000 0x100 0 4 60
+
+-- with a name of two units
 abbrev pub sampleRecord : ℕ → ℕ → List ℕ
-sampleRecord a b = sampleFixed 64 125911584000000000 4 60 ++ (leBytes 2 a ++ leBytes 2 b)
+sampleRecord a b = createdFixed ++ (leBytes 2 a ++ leBytes 2 b)
 
 -- and named ab
 abbrev pub recordE : List ℕ

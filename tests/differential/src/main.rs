@@ -16,10 +16,11 @@ mod window;
 include!(concat!(env!("OUT_DIR"), "/original.rs"));
 
 use difference::Outcome;
+use std::io;
 use std::path::Path;
 use std::process::ExitCode;
 
-const USAGE: &str = "usage: differential [--seed N] [--cases N]\n       differential --record DIR";
+const USAGE: &str = "usage: differential [--seed N] [--cases N]\n       differential --record CRATES";
 
 /// The seed of a run and how many random cases each subject has.
 pub struct Run {
@@ -38,7 +39,7 @@ fn main() -> ExitCode {
             eprintln!("{USAGE}");
             ExitCode::from(2)
         }
-        Some(Command::Record(folder)) => match records::sample::write(Path::new(&folder)) {
+        Some(Command::Record(folder)) => match record(Path::new(&folder)) {
             Ok(()) => ExitCode::SUCCESS,
             Err(error) => {
                 eprintln!("{folder}: {error}");
@@ -53,6 +54,12 @@ fn main() -> ExitCode {
             }
         },
     }
+}
+
+/// The recorded samples, each to its own folder among the crates.
+fn record(crates: &Path) -> io::Result<()> {
+    records::sample::write(&crates.join("replay_record"))?;
+    journals::sample::write(&crates.join("replay_readers"))
 }
 
 /// Every subject in turn, up to the first difference.

@@ -20,7 +20,8 @@ pub const LAST_TIME: i64 = 135_379_776_000_000_000;
 
 /// The length field at `offset`. A zero word has length 0, which no reader takes, so that all of them pass zero words by 8.
 pub fn length_at(data: &[u8], offset: usize) -> usize {
-    number(data, offset, 4) as usize
+    let field = data[offset..].first_chunk().expect("the field lies inside");
+    u32::from_le_bytes(*field) as usize
 }
 
 /// The layout of the record at `offset`, if it is of version 2 or 3.
@@ -72,6 +73,10 @@ pub fn carve(data: &[u8]) -> (Vec<Place>, [u64; 5]) {
     let mut offset = 0;
     while offset + 8 <= data.len() {
         let length = length_at(data, offset);
+        if length == 0 {
+            offset += 8;
+            continue;
+        }
         let mut moves = 8;
         if let Some(candidate) = candidate(data, Place { offset, length }) {
             candidates += 1;

@@ -52,17 +52,26 @@ pub fn write(folder: &Path) -> io::Result<()> {
     let mut sample = Sample::default();
     exhaustive(&mut sample);
     random(&mut sample);
-    if sample.stdin.len() > LONGEST_STDIN {
+    write_files(folder, &sample.stdin, &sample.stdout)?;
+    println!(
+        "recorded parsers: {} inputs, {} bytes",
+        sample.inputs,
+        sample.stdin.len()
+    );
+    Ok(())
+}
+
+/// Writes the two files of a sample, unless its inputs are too large.
+pub fn write_files(folder: &Path, stdin: &[u8], stdout: &str) -> io::Result<()> {
+    if stdin.len() > LONGEST_STDIN {
         return Err(io::Error::other(format!(
             "the inputs have {} bytes, above {LONGEST_STDIN}",
-            sample.stdin.len()
+            stdin.len()
         )));
     }
     fs::create_dir_all(folder)?;
-    fs::write(folder.join("stdin"), &sample.stdin)?;
-    fs::write(folder.join("stdout"), &sample.stdout)?;
-    println!("recorded: {} inputs, {} bytes", sample.inputs, sample.stdin.len());
-    Ok(())
+    fs::write(folder.join("stdin"), stdin)?;
+    fs::write(folder.join("stdout"), stdout)
 }
 
 /// Of each kind of exhaustive input as many as the table says, drawn from those on small slices.
@@ -122,7 +131,7 @@ impl Sample {
 }
 
 /// The fields in decimal, the USN by its 64 bits, and the name as four hexadecimal digits a unit, `-` if it is empty.
-fn line(record: &UsnRecord) -> String {
+pub fn line(record: &UsnRecord) -> String {
     let mut name = String::new();
     for unit in record.filename.encode_utf16() {
         write!(name, "{unit:04x}").expect("a String takes any text");

@@ -23,7 +23,7 @@ const SUBJECT: &str = "window";
 const STREAM: u64 = 5;
 
 /// Every journal is so much larger than a record that it counts for this many of a run's cases.
-const COUNTS_FOR: u64 = 1000;
+const COUNTS_FOR: u64 = 2000;
 
 /// The Rust's reader calls itself for each word that is no record, so that rubbish takes a stack of its length.
 const STACK: usize = 1 << 30;
