@@ -8,6 +8,12 @@ use borrow.Author.Tests.{eqb-true}
 use Rattle.usn_record.specs.Bytes.{le, leAt}
 use Rattle.usn_record.specs.Fields.{timestampOf, referenceOf, filenameOf}
 use Rattle.usn_record.specs.Record.{recordOf, parsed, listed, recordWords}
+use Rattle.walk.specs.Walk.{walk, from}
+use Rattle.usn_journal.specs.Scan.{kindByVersion, kindOf, visit, scanned}
+use Rattle.usn_journal.specs.Outcome.{scan}
+use Rattle.usn_carver.specs.Carve.{judged, visitAs, carving}
+use Rattle.usn_carver.specs.Carve.{visit as carverVisit}
+use Rattle.usn_reader.specs.Journal.{stepAt, steps, toCome}
 use Rattle.known.specs.Case.{Case, same, right}
 use Rattle.known.specs.Cases.{cases}
 
@@ -35,7 +41,7 @@ as-known (x ∷ cs) e c (List·Memᴰ·head q) = rw q (same-eq (x .says) (x .kno
 as-known (x ∷ cs) e c (List·Memᴰ·tail m) = as-known cs (both-right (same (x .says) (x .known)) (right cs) e) c m
 
 computed : right cases ≡ true
-unfolding le leAt timestampOf referenceOf filenameOf recordOf parsed listed recordWords
+unfolding le leAt timestampOf referenceOf filenameOf recordOf parsed listed recordWords walk from kindByVersion kindOf visit scanned scan judged visitAs carverVisit carving stepAt steps toCome
 computed = refl
 
 pub known : (c : Case) → List·Memᴰ c cases → c .says ≡ c .known

@@ -2,6 +2,7 @@
 use mathlib.Core.List.{List, _++_}
 use Rattle.known.specs.Case.{Case}
 use Rattle.known.specs.Records.{times, slices, fieldsE}
+use Rattle.known.specs.Journals.{empties, moves, claims, rejections}
 
 abbrev pub cases : List Case
-cases = times ++ slices ++ fieldsE
+cases = empties ++ times ++ slices ++ fieldsE ++ moves ++ claims ++ rejections

@@ -1,4 +1,5 @@
 pub mod Case
 pub mod Bytes
 pub mod Records
+pub mod Journals
 pub mod Cases
