@@ -9,11 +9,12 @@ use Rattle.walk.specs.Lists.{flatten, placeWords, overwrite}
 use Rattle.walk.specs.Walk.{go}
 use Rattle.walk.proofs.ListLaws.{Writing, writing-start, writing-skip, writing-room, writing-row, writing-end}
 use Rattle.walk.proofs.WalkLaws.{Left}
+use Rattle.usn_record.specs.Zeros.{PastZeros}
 use Rattle.usn_carver.specs.Settings.{Settings}
 use Rattle.usn_carver.specs.Events.{structure, time, Event, rejected, carved, records, structures, times, statsOf}
 use Rattle.usn_carver.specs.Carve.{visit, eventsFrom, events, recordsIn, statsIn}
-use Rattle.usn_carver.specs.Step.{Skips}
 use Rattle.usn_carver.specs.declared.CarvingStats.{CarvingStats}
+use Rattle.usn_carver.proofs.SkipLaws.{skipped}
 
 -- So many records were met before o.
 pub record Counting (st : Settings) (s : List ℕ) (n o : ℕ) : Type 0 where
@@ -24,8 +25,8 @@ pub record Counting (st : Settings) (s : List ℕ) (n o : ℕ) : Type 0 where
 pub counted : {es fs : List Event} → es ≡ fs → length (records es) ≡ length (records fs)
 counted e = ap (λ (xs : List Event). length (records xs)) e
 
-pub counting-skip : {st : Settings} {s : List ℕ} {n o : ℕ} (p : ℕ) → Skips s o p → Counting st s n o → Counting st s n p
-counting-skip {st} p k f = record { carved = rw (k .same st) (f .carved); near = omega (arith, f .near, k .forward) }
+pub counting-skip : {st : Settings} {s : List ℕ} {n o : ℕ} (p : ℕ) → PastZeros s o p → Counting st s n o → Counting st s n p
+counting-skip {st} {s} p k f = record { carved = rw (skipped st s k) (f .carved); near = omega (arith, f .near, k .forward) }
 
 -- counters are equal by their parts
 stats-are : (x : CarvingStats) (size : ℕ) (es : List Event) → x .«bytes_scanned» ≡ size → x .«candidates_examined» ≡ length es
@@ -80,8 +81,8 @@ module _ {st : Settings} {s l₀ l : List ℕ} {x : CarvingStats} {o : ℕ} (f :
         parts = f .parts;
       }
 
-  pub filling-skip : (p : ℕ) → Skips s o p → Filling st s l₀ l x p
-  filling-skip p k = moved p (k .forward) (sym (k .same st))
+  pub filling-skip : (p : ℕ) → PastZeros s o p → Filling st s l₀ l x p
+  filling-skip p k = moved p (k .forward) (sym (skipped st s k))
 
   pub filling-pass : (p : ℕ) → Left (visit st s) (length s) o (go [] p) → Filling st s l₀ l x p
   filling-pass p w = moved p (omega arith) (w .0)

@@ -11,7 +11,7 @@ ghost use Rattle.usn_carver.specs.Carve.{recordsIn, statsIn};
 use crate::CarvingStats;
 use crate::step::CarveStep;
 use crate::step::carve_step;
-use crate::zeros::skip_zeros;
+use usn_record::zeros::skip_zeros;
 
 // Whether the records to be carved are no more than room. None is counted where room is enough for any extract so long: a
 // carved record takes 64 bytes, of which the last may lack 4.

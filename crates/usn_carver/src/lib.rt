@@ -4,7 +4,6 @@
 mod fill;
 mod step;
 mod time;
-mod zeros;
 
 ghost use mathlib.Core.Path.{_≡_};
 ghost use lib.ListN.{length};

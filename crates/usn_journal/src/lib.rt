@@ -3,7 +3,6 @@
 // Every function here is proved. The call has no `requires`: any extract and any list get an answer.
 mod records;
 mod step;
-mod zeros;
 
 ghost use mathlib.Core.Path.{_≡_};
 ghost use lib.ListN.{length};

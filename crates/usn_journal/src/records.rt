@@ -8,7 +8,7 @@ ghost use Rattle.walk.specs.Lists.{flatten, overwrite, placeWords};
 ghost use Rattle.usn_journal.specs.Scan.{scanned};
 use crate::step::ScanStep;
 use crate::step::scan_step;
-use crate::zeros::skip_zeros;
+use usn_record::zeros::skip_zeros;
 
 // Whether the records fit a list with room for so many. A record takes 64 bytes of the scan, so where the room is enough for any
 // extract of this length they are not counted.

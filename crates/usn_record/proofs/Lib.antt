@@ -4,3 +4,4 @@ pub mod FieldLaws
 pub mod RecordLaws
 pub mod NameLaws
 pub mod ListedLaws
+pub mod ZeroLaws

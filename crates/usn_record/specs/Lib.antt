@@ -4,3 +4,4 @@ pub mod Fields
 pub mod Record
 pub mod Names
 pub mod Sample
+pub mod Zeros

@@ -5,6 +5,7 @@ use native.Mathlib.Omega.{arith}
 use lib.ListN.{length}
 use borrow.Author.Needs.{needs}
 use Rattle.usn_journal.specs.Scan.{eventsFrom, recordPlaces, scanned}
+use Rattle.usn_journal.proofs.ZeroLaws.{skipped}
 use Rattle.usn_journal.proofs.ScanLaws.{rest}
 use Rattle.usn_journal.proofs.records.count_records.Statement.{statement}
 use Rattle.usn_journal.proofs.records.count_records.Tie as tie
@@ -38,7 +39,7 @@ loop-less : tie.Need-loop-less Inv-loop μ-loop
 loop-less c = let w = rest _ _ (c .before .before .next .given .1) (c .before .before .before .before .scan-step .ensures) in omega arith
 
 loop-again : tie.Need-loop-again Inv-loop μ-loop
-loop-again c = let w = rest _ _ (c .before .before .next .given .1) (c .before .before .before .before .scan-step .ensures) in omega (arith, ap length (ap recordPlaces (w .0 ∙ sym (c .skip-zeros .ensures .1))))
+loop-again c = let w = rest _ _ (c .before .before .next .given .1) (c .before .before .before .before .scan-step .ensures) in omega (arith, ap length (ap recordPlaces (w .0 ∙ sym (skipped _ (c .skip-zeros .ensures)))))
 
 enum-known-next-2 : tie.Need-enum-known-next-2 Inv-loop μ-loop
 enum-known-next-2 c = search needs

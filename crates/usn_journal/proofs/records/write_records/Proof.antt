@@ -7,6 +7,7 @@ use borrow.Author.Needs.{needs}
 use Rattle.walk.specs.Lists.{placeWords}
 use Rattle.walk.proofs.ListLaws.{Writing, writing-start, writing-skip, writing-room, writing-row, writing-end}
 use Rattle.usn_journal.specs.Scan.{eventsFrom, recordPlaces, scanned}
+use Rattle.usn_journal.proofs.ZeroLaws.{skipped}
 use Rattle.usn_journal.proofs.ScanLaws.{rest}
 use Rattle.usn_journal.proofs.records.write_records.Statement.{statement}
 use Rattle.usn_journal.proofs.records.write_records.Tie as tie
@@ -43,7 +44,7 @@ loop-less : tie.Need-loop-less Inv-loop μ-loop
 loop-less c = let w = rest _ _ (c .before .before .next .given .1) (c .before .before .before .before .scan-step .ensures) in omega arith
 
 loop-again : tie.Need-loop-again Inv-loop μ-loop
-loop-again c = let w = rest _ _ (c .before .before .next .given .1) (c .before .before .before .before .scan-step .ensures) in writing-skip (c .before .before .before .before .before .loop .inv) (ap recordPlaces (w .0 ∙ sym (c .skip-zeros .ensures .1)))
+loop-again c = let w = rest _ _ (c .before .before .next .given .1) (c .before .before .before .before .scan-step .ensures) in writing-skip (c .before .before .before .before .before .loop .inv) (ap recordPlaces (w .0 ∙ sym (skipped _ (c .skip-zeros .ensures))))
 
 enum-known-offset : tie.Need-enum-known-offset Inv-loop μ-loop
 enum-known-offset c = search needs
