@@ -16,7 +16,7 @@ use Rattle.walk.specs.declared.Place.{Place}
 use Rattle.walk.proofs.AgreeLaws.{part-lent}
 use Rattle.walk.proofs.WalkLaws.{All, Finds, walk-all}
 use Rattle.usn_record.specs.Bytes.{leAt}
-use Rattle.usn_record.specs.Layout.{Layout, v2, v3}
+use Rattle.usn_record.specs.Layout.{Layout, layoutOf, v2, v3}
 use Rattle.usn_record.specs.Record.{maxRecord, parsed, recordOf, listed}
 use Rattle.usn_record.proofs.RecordLaws.{v2-inside, v3-inside, part-accepted, listed-v2, listed-v3}
 use Rattle.usn_record.proofs.NameLaws.{fixed-low}
@@ -24,10 +24,6 @@ use Rattle.usn_carver.specs.Settings.{Settings}
 use Rattle.usn_carver.specs.Events.{Event, rejected, carved, records}
 use Rattle.usn_carver.specs.Carve.{visit, events, recordsIn}
 use Rattle.usn_carver.proofs.VisitLaws.{Candidate, Shape, stops, passes, rejects, carves, visit-shape}
-
--- the layout of version 2 or 3
-abbrev pub layoutOf : ℕ → Layout
-layoutOf v = cond (eqb v 2) v2 v3
 
 -- an event is about a candidate
 abbrev pub Met : Settings → List ℕ → Event → Type 0

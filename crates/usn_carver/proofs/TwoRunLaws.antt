@@ -6,14 +6,13 @@ use mathlib.Core.Logic.{⊎-elim}
 use mathlib.Core.List.{List, [], _∷_, _++_, List·Memᴰ·head, List·Memᴰ·tail, Memᴰ·append-right}
 use native.Mathlib.Omega.{arith}
 use lib.ListN.{length}
-use lib.Seq.{ext-getD}
 use Rattle.walk.specs.Agree.{Agree}
 use Rattle.walk.specs.Masked.{Apart, Masked, placesOf}
 use Rattle.walk.specs.Outcome.{Outcome, refused, answered}
 use Rattle.walk.specs.Places.{round8}
 use Rattle.walk.specs.Walk.{Visit, go, after, walk, from}
 use Rattle.walk.specs.declared.Place.{Place}
-use Rattle.walk.proofs.MaskedLaws.{Same, Before, apart-append, walk-two-runs}
+use Rattle.walk.proofs.MaskedLaws.{masked-none, Same, Before, apart-append, walk-two-runs}
 use Rattle.walk.proofs.WalkLaws.{Forward, All, Finds}
 use Rattle.usn_record.specs.Names.{fixedOf, nameAt}
 use Rattle.usn_record.specs.Record.{listed}
@@ -150,14 +149,10 @@ pub record SameCarving (st : Settings) (s t l : List ℕ) : Type 0 where
   pub parsed : All (λ p. listed t (p .offset) ≡ listed s (p .offset)) (carvedRecords st s (length l))
 
 module _ (st : Settings) (s t l : List ℕ) where
-  -- masked nowhere, t is s
-  nowhere : Masked s t [] → t ≡ s
-  nowhere m = ext-getD 0 t s (m .long) (λ i _. m .same i tt)
-
   same-carving : (x : Outcome CarvingStats) → carving st s (length l) ≡ x → IfAnswered x (NoOverlap (events st s))
       → Masked s t (placesOf (λ p. nameAt s (p .offset)) (listIfAnswered x (recordsIn st s))) → SameCarving st s t l
   same-carving (refused n) e g m =
-      rw (nowhere m) (record { outcome = refl; list = refl; places = refl; parsed = rw e tt })
+      rw (masked-none s t m) (record { outcome = refl; list = refl; places = refl; parsed = rw e tt })
   same-carving (answered a) e g m =
       let two = carve-two-runs st s t g (rw (names-of s (events st s)) m) in
       let o : carving st t (length l) ≡ carving st s (length l) = outcome-agrees st s t (length l) (m .long) (two .0) in

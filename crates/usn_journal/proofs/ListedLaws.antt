@@ -15,7 +15,7 @@ use Rattle.walk.specs.declared.Place.{Place}
 use Rattle.walk.proofs.AgreeLaws.{part-lent}
 use Rattle.walk.proofs.WalkLaws.{All, Finds, walk-all}
 use Rattle.usn_record.specs.Bytes.{leAt}
-use Rattle.usn_record.specs.Layout.{Layout, v2, v3}
+use Rattle.usn_record.specs.Layout.{Layout, layoutOf, v2, v3}
 use Rattle.usn_record.specs.Record.{maxRecord, parsed, recordOf, listed}
 use Rattle.usn_record.specs.Names.{fixedOf}
 use Rattle.usn_record.proofs.RecordLaws.{Inside, v2-inside, v3-inside, part-accepted, listed-v2, listed-v3}
@@ -70,13 +70,9 @@ module _ (s : List ℕ) where
   unfolding scanned from
   scan-recorded = all-records (Recorded s) (events s) (walk-all (OfRecord (Recorded s)) (visit s) visit-recorded (length s - 0) 0)
 
--- the layout of a version 2 record, and of version 3
-abbrev pub layoutFor : ℕ → Layout
-layoutFor v = cond (eqb v 2) v2 v3
-
 -- the record at p, taken by its offset alone, is the one that its part parses to
 abbrev pub Parses : List ℕ → Place → Type 0
-Parses s p = listed s (p .offset) ≡ answered (recordOf (layoutFor (leAt 2 s (p .offset + 4))) (part s (p .offset) (p .length)))
+Parses s p = listed s (p .offset) ≡ answered (recordOf (layoutOf (leAt 2 s (p .offset + 4))) (part s (p .offset) (p .length)))
 
 module _ (s : List ℕ) (small : length s ≤ domain) where
   -- what its parser says of the part that is lent

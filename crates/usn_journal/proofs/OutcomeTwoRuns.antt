@@ -4,7 +4,6 @@ use mathlib.Core.Path.{_≡_, refl, ap, _∙_}
 use mathlib.Core.List.{List, []}
 use lib.ListN.{length}
 use lib.Dec.{ltb, leb}
-use lib.Seq.{ext-getD}
 use Rattle.walk.specs.Lists.{flatten, placeWords, listAfter}
 use Rattle.walk.specs.Masked.{Masked, placesOf}
 use Rattle.walk.specs.Outcome.{Outcome, refused, answered, mapOutcome}
@@ -12,15 +11,12 @@ use Rattle.walk.specs.Refusals.{domain}
 use Rattle.walk.specs.declared.Place.{Place}
 use Rattle.walk.proofs.ChoiceLaws.{cond-cases}
 use Rattle.walk.proofs.WalkLaws.{All}
+use Rattle.walk.proofs.MaskedLaws.{masked-none}
 use Rattle.usn_record.specs.Record.{listed}
 use Rattle.usn_record.specs.Names.{nameAt}
 use Rattle.usn_journal.specs.Scan.{scanned}
 use Rattle.usn_journal.specs.Outcome.{scan, scanAnswer, scanList, listing}
 use Rattle.usn_journal.proofs.TwoRunLaws.{Alike, scan-two-runs}
-
--- where no place is masked the runs are over the same bytes
-masked-none : (s t : List ℕ) → Masked s t [] → t ≡ s
-masked-none s t m = ext-getD 0 t s (m .long) (λ i _. m .same i tt)
 
 -- an answer is all the records
 scan-answers : (s : List ℕ) (words : ℕ) (ps : List Place) → scan s words ≡ answered ps → ps ≡ scanned s

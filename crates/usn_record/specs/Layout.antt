@@ -1,6 +1,7 @@
 -- Where the fields of a USN record lie, by Microsoft's pages USN_RECORD_V2 and USN_RECORD_V3, and what each version asks.
 use Prim.Native.Nat.{ℕ, _+_}
 use mathlib.Core.Bool.{Bool, true, false, cond}
+use lib.Dec.{eqb}
 
 -- offsets from the record's start; the record length is 4 bytes at 0, the versions 2 bytes each at 4 and 6
 pub record Layout : Type 0 where
@@ -68,6 +69,10 @@ v3 =
       nameInRecord = false;
       lengthInSlice = false;
     }
+
+-- the layout of version 2, and of version 3
+abbrev pub layoutOf : ℕ → Layout
+layoutOf version = cond (eqb version 2) v2 v3
 
 -- a layout by what tells the versions apart: the parent reference's offset, that of the USN, from which on both have the same fields, and
 -- what is asked. Those of versions 2 and 3 are `v2` and `v3`.

@@ -6,7 +6,7 @@ use mathlib.Core.List.{List, [], _∷_, _++_}
 use native.Mathlib.Omega.{arith}
 use mathlib.Core.Bool.{Bool, true, false}
 use lib.ListN.{length, getD, length-append, List·getD-append}
-use lib.Seq.{getD-append-add}
+use lib.Seq.{getD-append-add, ext-getD}
 use lib.Dec.{ltb}
 use borrow.Author.Tests.{ltb-true, ltb-false}
 use Rattle.walk.specs.Walk.{Visit, stop, go, after, walk}
@@ -61,6 +61,10 @@ module _ {A : Type 0} (s t : List ℕ) (places : A → List Place) (visit visit�
   walk-two-runs (suc k) o fi m =
       let q = reads k o fi m in
       rw (q .0) (turn o (visit o) (walk visit k) (walk visit′ k) refl (before o) (q .1) fi m (walk-two-runs k))
+
+-- masked nowhere, t is s
+pub masked-none : (s t : List ℕ) → Masked s t [] → t ≡ s
+masked-none s t m = ext-getD 0 t s (m .long) (λ i _. m .same i tt)
 
 -- lists that differ in the middle alone are masked there
 module _ (a x y b : List ℕ) (long : length y ≡ length x) where
