@@ -2,9 +2,9 @@
 //
 // Every function here is proved. No call has a `requires`: any slice gets an answer, a record or a refusal by its number.
 pub mod bytes;
-pub mod zeros;
 mod fields;
 mod parse;
+pub mod zeros;
 
 ghost use mathlib.Core.Path.{_≡_};
 ghost use Rattle.usn_record.specs.Layout.{v2, v3};

@@ -3,8 +3,8 @@ use borrow.Author.Needs.{needs}
 use Prim.Native.Nat.{_≤_, _-_}
 use native.Mathlib.Omega.{arith}
 use lib.ListN.{length}
-use Rattle.replay_record.proofs.write_units.Statement.{statement}
-use Rattle.replay_record.proofs.write_units.Tie as tie
+use Rattle.replay.proofs.write_units.Statement.{statement}
+use Rattle.replay.proofs.write_units.Tie as tie
 
 abbrev Inv-loop : tie.InvT-loop
 Inv-loop units k₀ k = k ≤ length units
