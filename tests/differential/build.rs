@@ -13,12 +13,18 @@ const USN: [&str; 3] = ["carver", "reader", "record"];
 const LIBRARY: &str = "usn_journal_reader";
 
 fn main() {
+    let project = env::var_os("CARGO_MANIFEST_DIR").expect("cargo sets CARGO_MANIFEST_DIR");
+    build(Path::new(&project));
+}
+
+/// The build of this project, whose folder is `project`, and of any other that has this file as a module.
+pub fn build(project: &Path) {
     println!("cargo:rerun-if-changed=build.rs");
-    let source = folder("NTFS_FORENSIC_SRC", "../../../shared/docs/src").join("core/src");
+    let source = folder(project, "NTFS_FORENSIC_SRC", "../../../shared/docs/src").join("core/src");
     declare("original.rs", &source, &ROOT);
     declare("original_usn.rs", &source.join("usn"), &USN);
 
-    let archive = folder("RATTLE_STATICLIB", "../../target/staticlib");
+    let archive = folder(project, "RATTLE_STATICLIB", "../../target/staticlib");
     present(
         &archive.join(format!("lib{LIBRARY}.a")),
         &format!("`rt staticlib {LIBRARY}` at the repository's root writes it"),
@@ -28,11 +34,9 @@ fn main() {
 }
 
 /// The folder that the environment variable names, or the default; a relative one counts from this project's folder.
-fn folder(variable: &str, default: &str) -> PathBuf {
+fn folder(project: &Path, variable: &str, default: &str) -> PathBuf {
     println!("cargo:rerun-if-env-changed={variable}");
-    let project = env::var_os("CARGO_MANIFEST_DIR").expect("cargo sets CARGO_MANIFEST_DIR");
-    let named = env::var_os(variable).unwrap_or_else(|| default.into());
-    Path::new(&project).join(named)
+    project.join(env::var_os(variable).unwrap_or_else(|| default.into()))
 }
 
 /// Writes a file of module declarations. The original's warnings are its own, so they are not shown.

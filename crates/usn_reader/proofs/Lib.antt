@@ -1,6 +1,7 @@
 pub mod WindowLaws
 pub mod TurnLaws
 pub mod SearchLaws
+pub mod ZeroLaws
 pub mod CallLaws
 pub mod JournalLaws
 pub mod PlainLaws

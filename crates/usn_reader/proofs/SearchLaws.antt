@@ -2,6 +2,7 @@
 -- where it went. Assumes nothing.
 use Prim.Native.Nat.{ℕ, zero, suc, _+_, _-_, _%_, _≤_, _<_}
 use mathlib.Core.Path.{_≡_, refl, sym, ap, _∙_}
+use mathlib.Core.List.{List}
 use mathlib.Core.Bool.{Bool, true, false, cond, _||_}
 use native.Mathlib.Omega.{arith}
 use lib.Dec.{ltb, eqb}
@@ -11,7 +12,7 @@ use Rattle.walk.specs.Places.{round8}
 use Rattle.walk.proofs.ChoiceLaws.{cond-cases, or-left}
 use Rattle.usn_record.specs.declared.UsnRecord.{UsnRecord}
 use Rattle.usn_reader.specs.Window.{windowSize, refilled, skipped, movedBy, Ready}
-use Rattle.usn_reader.specs.Rule.{Reads, orEnd, given, byLength, turnOf, onward, turns, searched}
+use Rattle.usn_reader.specs.Rule.{Reads, bufferReads, orEnd, given, byLength, turnOf, onward, turns, searched, Passes}
 use Rattle.usn_reader.specs.declared.UsnJournalReader.{UsnJournalReader}
 use Rattle.usn_reader.specs.declared.Reading.{Reading}
 use Rattle.usn_reader.specs.declared.turn.Turn.{Turn}
@@ -60,6 +61,7 @@ ready-moved r m =
       buffer = r .buffer;
       small = r .small;
       inside = r .inside;
+      starts = r .starts;
       near = r .near;
       from = omega (arith, r .from);
       upto = m .most;
@@ -115,3 +117,26 @@ module _ {r : Reads} {n : ℕ} {u w : UsnJournalReader} (s : Searching r n u w) 
 
   pub searching-less : {v : UsnJournalReader} → t ≡ Again v → v .end - v .position < w .end - w .position
   searching-less f = closer (search-again r w e f .1)
+
+-- a window past zero words
+pub passed-ready : {b : List ℕ} {w v : UsnJournalReader} {n : ℕ} → Ready w n → Passes b w v → Ready v n
+passed-ready {b} {w} r k =
+    let m : w .position + k .by ≤ w .end + 7 = rw (k .is) at (k .upto) in
+    rw (k .is)
+    (record {
+      buffer = r .buffer;
+      small = r .small;
+      inside = r .inside;
+      starts = r .starts;
+      near = r .near;
+      from = omega (arith, r .from);
+      upto = m;
+      position8 = omega (arith, r .position8, k .whole);
+      end8 = r .end8;
+    })
+
+pub searching-passed : {b : List ℕ} {n : ℕ} {u w v : UsnJournalReader} → Searching (bufferReads b) n u w → Passes b w v → Searching (bufferReads b) n u v
+searching-passed s k = record { ready = passed-ready (s .ready) k; whole = s .whole ∙ sym (k .same) }
+
+pub passed-less : {b : List ℕ} {w v : UsnJournalReader} {m : ℕ} → Passes b w v → w .end - w .position < m → v .end - v .position < m
+passed-less k h = rw (k .is) (omega arith)

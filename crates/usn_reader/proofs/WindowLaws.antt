@@ -154,6 +154,7 @@ ready-of {w} s =
       buffer = s .buffer;
       small = s .small;
       inside = e .inside;
+      starts = omega (arith, s .fits);
       near = e .near;
       from = s .from;
       upto = omega (arith, s .upto);

@@ -1,5 +1,6 @@
 -- What the window does at its position, by the numbers and by what is read there.
-use Prim.Native.Nat.{ℕ, zero, suc, _+_, _-_}
+use Prim.Native.Nat.{ℕ, zero, suc, _+_, _-_, _%_, _≤_}
+use mathlib.Core.Path.{_≡_}
 use mathlib.Core.List.{List}
 use mathlib.Core.Bool.{cond, _||_}
 use lib.Dec.{ltb, eqb}
@@ -8,7 +9,7 @@ use Rattle.walk.specs.Places.{placeFrom}
 use Rattle.usn_record.specs.Bytes.{leAt}
 use Rattle.usn_record.specs.Record.{listed}
 use Rattle.usn_record.specs.declared.UsnRecord.{UsnRecord}
-use Rattle.usn_reader.specs.Window.{windowSize, wantedOf, refilled, skipped, advanced, finished}
+use Rattle.usn_reader.specs.Window.{windowSize, wantedOf, refilled, skipped, advanced, movedBy, finished}
 use Rattle.usn_reader.specs.declared.UsnJournalReader.{UsnJournalReader}
 use Rattle.usn_reader.specs.declared.Answer.{Answer}
 use Rattle.usn_reader.specs.declared.Answer.the-variants.{Record, Wants, End, Refused}
@@ -94,3 +95,11 @@ turns r (suc k) w = onward (λ x. x) (turns r k) (turnOf r w)
 -- the answer of all turns: each that goes on moves the position, and one at the end does not go on
 unfoldable pub searched : Reads → UsnJournalReader → Reading
 searched r w = turns r (suc (w .end - w .position)) w
+
+-- the search from a window that is further on, with nothing else changed, is the search from w
+pub record Passes (b : List ℕ) (w v : UsnJournalReader) : Type 0 where
+  pub by : ℕ
+  pub is : v ≡ movedBy w by
+  pub upto : v .position ≤ w .end + 7
+  pub whole : by % 8 ≡ 0
+  pub same : searched (bufferReads b) v ≡ searched (bufferReads b) w

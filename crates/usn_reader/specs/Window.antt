@@ -85,6 +85,7 @@ pub record Ready (w : UsnJournalReader) (n : ℕ) : Type 0 where
   pub buffer : n ≡ windowSize
   pub small : w .total ≤ streamDomain
   pub inside : w .end ≤ w .total
+  pub starts : w .start ≤ w .end
   pub near : w .end ≤ w .start + windowSize
   pub from : w .start ≤ w .position
   pub upto : w .position ≤ w .end + 7

@@ -4,7 +4,7 @@ ghost use lib.ListN.{length};
 ghost use Prim.Native.Nat.{_+_, _≤_, _<_};
 ghost use Rattle.walk.specs.Places.{placeFrom};
 ghost use Rattle.usn_reader.specs.Window.{Ready};
-ghost use Rattle.usn_reader.specs.Rule.{bufferReads, namedFrom as named, orEnd, turnOf, searched};
+ghost use Rattle.usn_reader.specs.Rule.{bufferReads, namedFrom as named, orEnd, turnOf, searched, Passes};
 use crate::Answer;
 use crate::BUF_SIZE;
 use crate::Reading;
@@ -13,6 +13,7 @@ use usn_record::Parsed;
 use usn_record::UsnRecord;
 use usn_record::bytes::le_u32;
 use usn_record::listed_record;
+use usn_record::zeros::skip_zeros;
 use walk::Place;
 
 // What a turn does: it answers, or goes on from another position.
@@ -34,10 +35,26 @@ impl UsnJournalReader {
                     return r;
                 }
                 Turn::Again(next) => {
-                    w = next;
+                    w = next.past_zeros(buffer);
                 }
             }
         }
+    }
+
+    // Past zero words of the window, as the turns would go.
+    fn past_zeros(self, buffer: &[u8]) -> UsnJournalReader
+        requires { ⌜ Ready self (length (now buffer)) ⌝ }
+        ensures { λ r. ⌜ Passes (now (buffer .entry)) self r ⌝ }
+    {
+        let limit = self.end - self.start;
+        let at = self.position - self.start;
+        if limit < at {
+            return self;
+        }
+        let past = skip_zeros(&buffer[..limit], at);
+        let mut next = self;
+        next.position = self.start + past;
+        next
     }
 
     // One turn.

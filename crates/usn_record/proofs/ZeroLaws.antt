@@ -1,6 +1,6 @@
 -- Zero words passed four at a time, and what a reader makes of them: where it goes on past each zero word as from before it, it goes on past
 -- them all so. Assumes nothing.
-use Prim.Native.Nat.{ℕ, _+_, _≤_}
+use Prim.Native.Nat.{ℕ, _+_, _-_, _%_, _≤_}
 use mathlib.Core.Path.{_≡_, refl, sym, ap, _∙_}
 use mathlib.Core.List.{List}
 use native.Mathlib.Omega.{arith}
@@ -32,6 +32,21 @@ module _ (s : List ℕ) where
       (past-word (p + 24) (omega arith) (omega arith) (sym ec ∙ w .0)
       (past-word (p + 16) (omega arith) (omega arith) (sym eb ∙ y .1)
       (past-word (p + 8) refl (omega arith) (sym ea ∙ y .0) k)))
+
+  -- the words lie inside, and are whole
+  words-inside : {o p : ℕ} → ZeroWords s o p → o ≤ length s → p ≤ length s
+  words-inside (none e) h = omega arith
+  words-inside (word k l z e) h = omega arith
+
+  pub past-inside : {o p : ℕ} → PastZeros s o p → o ≤ length s → p ≤ length s
+  past-inside k h = words-inside (k .words) h
+
+  words-whole : {o p : ℕ} → ZeroWords s o p → (o ≤ p) × ((p - o) % 8 ≡ 0)
+  words-whole (none e) = omega arith
+  words-whole (word k l z e) = omega (arith, words-whole k)
+
+  pub past-whole : {o p : ℕ} → PastZeros s o p → (p - o) % 8 ≡ 0
+  past-whole k = words-whole (k .words) .1
 
   -- the length field of a zero word is 0
   pub zero-length : (o : ℕ) → o + 8 ≤ length s → leAt 8 s o ≡ 0 → leAt 4 s o ≡ 0

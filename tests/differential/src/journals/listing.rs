@@ -187,20 +187,14 @@ fn compare(lister: &Lister, data: &[u8], lent: impl FnOnce(usize) -> Vec<Lent>) 
     Ok(walk)
 }
 
-/// The lists lent where every one is tried: none, two and one word too few, just enough, one and two more, and so many that
-/// no extract of this length could fill them; and answers of too few words, just enough and more.
+/// The lists lent where every one is tried: just enough, one and two words more, one and two too few, none, and so many that
+/// no extract of this length could fill them; and answers of too few words and of more than enough.
 fn every_lent(lister: &Lister, length: usize, records: usize) -> Vec<Lent> {
     let (words, full) = (lister.fields.len(), 2 * records);
-    let lists = [
-        0,
-        full.saturating_sub(2),
-        full.saturating_sub(1),
-        full,
-        full + 1,
-        full + 2,
-        length / 28 + 2,
-    ];
-    let mut lent: Vec<Lent> = lists.into_iter().map(|list| Lent { list, out: words }).collect();
+    let fewer = [1, 2, full].map(|less| full.saturating_sub(less));
+    let more = [full, full + 1, full + 2, length / 28 + 2];
+    let lists = more.into_iter().chain(fewer);
+    let mut lent: Vec<Lent> = lists.map(|list| Lent { list, out: words }).collect();
     for out in [0, words - 1, words + 1, words + 3] {
         lent.extend([full.saturating_sub(1), full].map(|list| Lent { list, out }));
     }

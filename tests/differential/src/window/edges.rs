@@ -18,6 +18,7 @@ pub fn inputs() -> Vec<Input> {
         }
     }
     cuts(&mut inputs);
+    totals(&mut inputs);
     inputs
 }
 
@@ -76,5 +77,21 @@ fn cuts(inputs: &mut Vec<Input>) {
             kind: "cut at the window's end",
             bytes: whole[..end].to_vec(),
         });
+    }
+}
+
+/// Zeros over one to three windows that end around a window's end, alone and with E before the end, across it or behind it.
+fn totals(inputs: &mut Vec<Input>) {
+    for edge in [1, 2, 3].map(|windows| windows * BUF_SIZE) {
+        for total in edge - 9..=edge + 17 {
+            for at in [edge - 128, edge - 64, edge - 56, edge - 8, edge] {
+                let mut bytes = laid(&[], &example(&V2), at);
+                bytes.resize(total, 0);
+                inputs.push(Input {
+                    kind: "total around a window's end",
+                    bytes,
+                });
+            }
+        }
     }
 }

@@ -23,14 +23,16 @@ pub fn fill(random: &mut Random, bytes: &mut Vec<u8>) -> &'static str {
         _ => bytes.clear(),
     }
     let size = random.between(BUF_SIZE / 2, LONGEST);
-    let mut edge = BUF_SIZE;
+    let (mut last, mut edge) = (0, BUF_SIZE);
     while bytes.len() < size {
+        last = edge;
         filler(random, bytes, edge);
         edge = across(random, bytes, edge);
     }
-    if random.one_in(4) {
-        let end = bytes.len() - random.below(200.min(bytes.len()));
-        bytes.truncate(end);
+    match random.below(4) {
+        0 => bytes.truncate(bytes.len() - random.below(200)),
+        1 => bytes.truncate(last - 8 + random.below(24)),
+        _ => {}
     }
     "stream"
 }

@@ -3,7 +3,7 @@ use borrow.Author.Needs.{needs}
 use Prim.Native.Nat.{_-_}
 use lib.ListN.{length}
 use Rattle.usn_reader.specs.Rule.{bufferReads}
-use Rattle.usn_reader.proofs.SearchLaws.{Searching, searching-start, searching-done, searching-again, searching-less}
+use Rattle.usn_reader.proofs.SearchLaws.{Searching, searching-start, searching-done, searching-again, searching-less, searching-passed, passed-less}
 use Rattle.usn_reader.proofs.UsnJournalReader.search.Statement.{statement}
 use Rattle.usn_reader.proofs.UsnJournalReader.search.Tie as tie
 
@@ -28,11 +28,14 @@ returns c = searching-done (c .before .before .before .before .loop .inv) (c .be
 enum-known-next : tie.Need-enum-known-next Inv-loop μ-loop
 enum-known-next c = search needs
 
+past-zeros-requires : tie.Need-past-zeros-requires Inv-loop μ-loop
+past-zeros-requires c κs = searching-again (c .before .before .before .before .loop .inv) (c .before .before .before .turn .ensures) (c .before .next .given .1) .ready
+
 loop-less : tie.Need-loop-less Inv-loop μ-loop
-loop-less c = searching-less (c .before .before .before .before .loop .inv) (c .before .before .before .turn .ensures) (c .before .next .given .1)
+loop-less c = passed-less (c .past-zeros .ensures) (searching-less (c .before .before .before .before .before .loop .inv) (c .before .before .before .before .turn .ensures) (c .before .before .next .given .1))
 
 loop-again : tie.Need-loop-again Inv-loop μ-loop
-loop-again c = searching-again (c .before .before .before .before .loop .inv) (c .before .before .before .turn .ensures) (c .before .next .given .1)
+loop-again c = searching-passed (searching-again (c .before .before .before .before .before .loop .inv) (c .before .before .before .before .turn .ensures) (c .before .before .next .given .1)) (c .past-zeros .ensures)
 
 pub search-spec : {M : Type 1} → statement M
 search-spec =
@@ -45,5 +48,6 @@ search-spec =
     enum-known-r
     returns
     enum-known-next
+    past-zeros-requires
     loop-less
     loop-again)

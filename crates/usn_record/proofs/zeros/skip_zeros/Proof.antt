@@ -14,35 +14,41 @@ Inv-loop «data» o size last p₀ p = PastZeros «data» o p
 abbrev μ-loop : tie.MeasureT-loop
 μ-loop «data» o size last p₀ p = length «data» - p
 
+le-u64-requires : tie.Need-le-u64-requires Inv-loop μ-loop
+le-u64-requires c κs = search needs
+
 returns : tie.Need-returns Inv-loop μ-loop
 returns c = past-none _ _
+
+returns-2 : tie.Need-returns-2 Inv-loop μ-loop
+returns-2 c = past-none _ _
 
 loop-holds : tie.Need-loop-holds Inv-loop μ-loop
 loop-holds c = past-none _ _
 
-le-u64-requires : tie.Need-le-u64-requires Inv-loop μ-loop
-le-u64-requires c κs = search needs
+le-u64-requires-2 : tie.Need-le-u64-requires-2 Inv-loop μ-loop
+le-u64-requires-2 c κs = search needs
 
 add-le-u64 : tie.Need-add-le-u64 Inv-loop μ-loop
 add-le-u64 c = omega arith
 
-le-u64-requires-2 : tie.Need-le-u64-requires-2 Inv-loop μ-loop
-le-u64-requires-2 c κs = search needs
+le-u64-requires-3 : tie.Need-le-u64-requires-3 Inv-loop μ-loop
+le-u64-requires-3 c κs = search needs
 
 add-le-u64-2 : tie.Need-add-le-u64-2 Inv-loop μ-loop
 add-le-u64-2 c = omega arith
 
-le-u64-requires-3 : tie.Need-le-u64-requires-3 Inv-loop μ-loop
-le-u64-requires-3 c κs = search needs
+le-u64-requires-4 : tie.Need-le-u64-requires-4 Inv-loop μ-loop
+le-u64-requires-4 c κs = search needs
 
 add-le-u64-3 : tie.Need-add-le-u64-3 Inv-loop μ-loop
 add-le-u64-3 c = omega arith
 
-le-u64-requires-4 : tie.Need-le-u64-requires-4 Inv-loop μ-loop
-le-u64-requires-4 c κs = search needs
+le-u64-requires-5 : tie.Need-le-u64-requires-5 Inv-loop μ-loop
+le-u64-requires-5 c κs = search needs
 
-returns-2 : tie.Need-returns-2 Inv-loop μ-loop
-returns-2 c = c .before .before .before .before .before .before .loop .inv
+returns-3 : tie.Need-returns-3 Inv-loop μ-loop
+returns-3 c = c .before .before .before .before .before .before .loop .inv
 
 add-p : tie.Need-add-p Inv-loop μ-loop
 add-p c = omega arith
@@ -51,10 +57,10 @@ loop-less : tie.Need-loop-less Inv-loop μ-loop
 loop-less c = omega arith
 
 loop-again : tie.Need-loop-again Inv-loop μ-loop
-loop-again c = past-four _ (c .before .before .before .before .before .before .loop .inv) (omega arith) (c .before .before .before .before .le-u64 .ensures) (c .before .before .before .le-u642 .ensures) (c .before .before .le-u643 .ensures) (c .before .le-u644 .ensures) (c .if2 .left)
+loop-again c = past-four _ (c .before .before .before .before .before .before .loop .inv) (omega arith) (c .before .before .before .before .le-u642 .ensures) (c .before .before .before .le-u643 .ensures) (c .before .before .le-u644 .ensures) (c .before .le-u645 .ensures) (c .if3 .left)
 
-returns-3 : tie.Need-returns-3 Inv-loop μ-loop
-returns-3 c = c .before .loop .inv
+returns-4 : tie.Need-returns-4 Inv-loop μ-loop
+returns-4 c = c .before .loop .inv
 
 pub skip-zeros-spec : {M : Type 1} → statement M
 skip-zeros-spec =
@@ -62,17 +68,19 @@ skip-zeros-spec =
     (tie.spec
     Inv-loop
     μ-loop
-    returns
-    loop-holds
     le-u64-requires
-    add-le-u64
-    le-u64-requires-2
-    add-le-u64-2
-    le-u64-requires-3
-    add-le-u64-3
-    le-u64-requires-4
+    returns
     returns-2
+    loop-holds
+    le-u64-requires-2
+    add-le-u64
+    le-u64-requires-3
+    add-le-u64-2
+    le-u64-requires-4
+    add-le-u64-3
+    le-u64-requires-5
+    returns-3
     add-p
     loop-less
     loop-again
-    returns-3)
+    returns-4)

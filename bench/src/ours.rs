@@ -1,0 +1,145 @@
+//! Our readers, timed.
+
+use crate::library::{self, ACCEPTED, ANSWER_WORDS, BUF_SIZE, END, READER_WORDS, RECORD, WANTS, WORDS};
+use crate::{clock, Sum};
+use std::hint::black_box;
+use std::time::Duration;
+
+/// A reader that lists the places of records.
+#[derive(Clone, Copy)]
+pub struct Lister {
+    call: fn(&[u8], &mut [usize], &mut [u64]) -> u32,
+    /// The word of its answer that is the number of records.
+    count: usize,
+}
+
+pub const SCAN: Lister = Lister {
+    call: library::usn_parse_journal,
+    count: 0,
+};
+
+pub const CARVER: Lister = Lister {
+    call: library::usn_carve_records,
+    count: 2,
+};
+
+/// How much is lent: a list for any journal of this length, and the words of so many records.
+#[derive(Clone, Copy)]
+pub struct Room {
+    pub journal: usize,
+    pub records: usize,
+}
+
+/// What is lent to a reader: the list, and the words of each record.
+pub struct Memory {
+    list: Vec<usize>,
+    fields: Vec<u64>,
+}
+
+impl Room {
+    /// The same with a list that the records just fill.
+    pub fn just_full(self) -> Self {
+        Self {
+            journal: 64 * self.records,
+            ..self
+        }
+    }
+
+    /// Memory that the system has not given pages to.
+    pub fn fresh(self) -> Memory {
+        Memory {
+            list: vec![0; 2 * self.journal.div_ceil(64)],
+            fields: vec![0; WORDS * self.records],
+        }
+    }
+
+    /// Memory that has been written.
+    pub fn cleared(self) -> Memory {
+        let mut memory = black_box(self.fresh());
+        memory.list.fill(0);
+        memory.fields.fill(0);
+        memory
+    }
+}
+
+impl Lister {
+    /// The list alone is timed.
+    pub fn list(self, journal: &[u8], mut memory: Memory) -> (Duration, Sum) {
+        let (time, records) = clock(|| self.listed(journal, &mut memory));
+        fields(journal, &mut memory, records);
+        (time, memory.sum(records))
+    }
+
+    /// The list and the words of each listed record are timed.
+    pub fn list_and_fields(self, journal: &[u8], mut memory: Memory) -> (Duration, Sum) {
+        let (time, records) = clock(|| {
+            let records = self.listed(journal, &mut memory);
+            fields(journal, &mut memory, records);
+            records
+        });
+        (time, memory.sum(records))
+    }
+
+    /// Lists the places of the records; gives how many there are.
+    fn listed(self, journal: &[u8], memory: &mut Memory) -> usize {
+        let mut out = [0; 5];
+        let answer = (self.call)(journal, &mut memory.list, &mut out);
+        assert_eq!(answer, ACCEPTED, "the list has room");
+        out[self.count] as usize
+    }
+}
+
+/// Writes the words of each listed record.
+fn fields(journal: &[u8], memory: &mut Memory, records: usize) {
+    let places = memory.list.chunks_exact(2).take(records);
+    for (place, words) in places.zip(memory.fields.chunks_exact_mut(WORDS)) {
+        let answer = library::usn_listed_record(journal, place[0], words);
+        assert_eq!(answer, ACCEPTED, "a listed record is there");
+    }
+}
+
+impl Memory {
+    fn sum(&self, records: usize) -> Sum {
+        let mut sum = Sum::default();
+        for words in self.fields.chunks_exact(WORDS).take(records) {
+            add(&mut sum, words);
+        }
+        sum
+    }
+}
+
+/// Adds a record by its words.
+fn add(sum: &mut Sum, words: &[u64]) {
+    sum.add([words[0], words[4], words[5], words[7]]);
+}
+
+/// The window over the journal, given at most so many bytes at a time.
+pub fn window(journal: &[u8], delivery: usize) -> (Duration, Sum) {
+    let mut buffer = black_box(vec![0; BUF_SIZE]);
+    buffer.fill(0);
+    clock(|| {
+        let mut sum = Sum::default();
+        let mut reader = [0; READER_WORDS];
+        let mut out = [0; ANSWER_WORDS];
+        let mut answer = library::usn_reader_new(journal.len() as u64, &mut reader);
+        while answer == ACCEPTED {
+            answer = library::usn_reader_next(&mut reader, &buffer, &mut out);
+            match out[0] {
+                RECORD => add(&mut sum, &out[3..]),
+                END => return sum,
+                _ => give(journal, delivery, &mut reader, &mut buffer, &mut out),
+            }
+        }
+        panic!("the window is refused by {answer}");
+    })
+}
+
+/// Gives what is wanted, at most so many bytes at a time.
+fn give(journal: &[u8], delivery: usize, reader: &mut [u64], buffer: &mut [u8], out: &mut [u64]) {
+    while out[0] == WANTS && out[2] > 0 {
+        let (from, wanted) = (out[1] as usize, out[2] as usize);
+        let bytes = &journal[from..from + wanted.min(delivery)];
+        let answer = library::usn_reader_give(reader, buffer, bytes, out);
+        assert_eq!(answer, ACCEPTED, "no more is given than is wanted");
+    }
+}
