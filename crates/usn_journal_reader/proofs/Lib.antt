@@ -1,1 +1,4 @@
 pub mod AnswerLaws
+pub mod RecordLaws
+pub mod JournalLaws
+pub mod WindowLaws
