@@ -1,0 +1,10 @@
+pub mod TimeLaws
+pub mod VisitLaws
+pub mod RunLaws
+pub mod SkipLaws
+pub mod FillLaws
+pub mod CallLaws
+pub mod CandidateLaws
+pub mod ReadLaws
+pub mod TwoRunLaws
+pub mod Examples

@@ -1,0 +1,5 @@
+pub mod Settings
+pub mod Events
+pub mod Carve
+pub mod Step
+pub mod Masking

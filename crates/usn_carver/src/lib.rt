@@ -1,0 +1,70 @@
+// Carving of USN records, versions 2 and 3, from raw bytes such as unallocated space.
+//
+// Every function here is proved. The call has no `requires`: any extract and any list get an answer.
+mod fill;
+mod step;
+mod time;
+mod zeros;
+
+ghost use mathlib.Core.Path.{_≡_};
+ghost use lib.ListN.{length};
+ghost use Rattle.usn_carver.specs.Settings.{standard, settingsOf};
+ghost use Rattle.usn_carver.specs.Carve.{outcome, carving, carvingList};
+use crate::fill::fill_list;
+use crate::fill::has_room;
+use walk::ABOVE_DOMAIN;
+use walk::DOMAIN;
+use walk::LIST_FULL;
+
+// The earliest time of a carved record: the start of 2000, in ticks of 100 nanoseconds since 1601.
+const FILETIME_2000: u64 = 125_911_584_000_000_000;
+// The latest: 13 hours and 20 minutes into 2030.
+const FILETIME_2030: u64 = 135_379_776_000_000_000;
+// The largest record.
+const USN_MAX_RECORD_SIZE: usize = 65536;
+
+// What a run counted. Every candidate is carved or rejected, for its structure or else for its time.
+pub struct CarvingStats {
+    pub bytes_scanned: usize,
+    pub candidates_examined: u64,
+    pub records_carved: usize,
+    pub rejected_timestamp: u64,
+    pub rejected_structure: u64,
+}
+
+// What carving answers: its counters, or a refusal's number.
+pub enum Carving {
+    Carved(CarvingStats),
+    Refused(u32),
+}
+
+// The records found at multiples of 8: of version 2 or 3, whole, with a name right after the fixed part and a time within the
+// limits. Their offsets and lengths go as pairs to the front of the list; the words after them are left alone.
+// Refused, with nothing written: 1 the extract is above the domain, 5 there are more records than half the list's words.
+pub fn carve_usn_records(extract: &[u8], list: &mut [usize]) -> Carving
+    ensures { λ r. ⌜ outcome r ≡ carving standard (now (extract .entry)) (length (now (list .entry))) ⌝ }
+    ensures { λ _. ⌜ now (list .exit) ≡ carvingList standard (now (extract .entry)) (now (list .entry)) ⌝ }
+{
+    carve(
+        extract,
+        list,
+        FILETIME_2000,
+        FILETIME_2030,
+        USN_MAX_RECORD_SIZE,
+    )
+}
+
+// Carving with any limits: the times from lower to upper, given by their bits, and records of up to largest bytes.
+fn carve(extract: &[u8], list: &mut [usize], lower: u64, upper: u64, largest: usize) -> Carving
+    ensures { λ r. ⌜ outcome r ≡ carving (settingsOf lower upper largest) (now (extract .entry)) (length (now (list .entry))) ⌝ }
+    ensures { λ _. ⌜ now (list .exit) ≡ carvingList (settingsOf lower upper largest) (now (extract .entry)) (now (list .entry)) ⌝ }
+{
+    if DOMAIN < extract.len() {
+        return Carving::Refused(ABOVE_DOMAIN);
+    }
+    if has_room(extract, list.len() / 2, lower, upper, largest) {
+        Carving::Carved(fill_list(extract, list, lower, upper, largest))
+    } else {
+        Carving::Refused(LIST_FULL)
+    }
+}
