@@ -1,8 +1,7 @@
 -- An outcome goes out of a call as a number and words. Assumes nothing.
 use Prim.Native.Nat.{ℕ, _≤_, _<_}
-use mathlib.Core.Path.{_≡_, refl, sym, ap, _∙_}
-use mathlib.Core.List.{List, [], _∷_}
-use native.Mathlib.Omega.{arith}
+use mathlib.Core.Path.{_≡_, refl}
+use mathlib.Core.List.{List}
 use lib.ListN.{length}
 use lib.Seq.{sets}
 use borrow.Author.Tests.{lt-ltb, le-ltb}
@@ -10,7 +9,7 @@ use Rattle.walk.specs.Outcome.{Outcome, refused, answered, mapOutcome}
 use Rattle.walk.specs.Lists.{listAfter}
 use Rattle.walk.specs.Refusals.{listFull}
 use Rattle.walk.proofs.ListLaws.{sets-front}
-use Rattle.usn_journal_reader.specs.Answers.{number, written, asking}
+use Rattle.usn_journal_reader.specs.Answers.{number, written, withRoom}
 
 -- the number r goes out, and a lent list that was l is m
 pub record Out {A : Type 0} (words : A → List ℕ) (x : Outcome A) (l m : List ℕ) (r : ℕ) : Type 0 where
@@ -47,15 +46,6 @@ module _ {A : Type 0} {words : A → List ℕ} {l m : List ℕ} {r : ℕ} where
   out-mapped (refused n) o = record { answer = o .answer; list = o .list }
   out-mapped (answered b) o = record { answer = o .answer; list = o .list }
 
-module _ {A : Type 0} (x : Outcome A) {n room : ℕ} where
-  pub asking-few : room < n → asking n room x ≡ refused listFull
-  unfolding asking
-  asking-few h = simp (lt-ltb _ _ h)
-
-  pub asking-enough : n ≤ room → asking n room x ≡ x
-  unfolding asking
-  asking-enough h = simp (le-ltb _ _ h)
-
 module _ {A : Type 0} (words : A → List ℕ) (room : ℕ) {x : Outcome A} where
   pub written-refused : {n : ℕ} → x ≡ refused n → written words room x ≡ refused n
   unfolding written
@@ -69,3 +59,20 @@ module _ {A : Type 0} (words : A → List ℕ) (room : ℕ) {x : Outcome A} wher
     pub written-answered : length (words a) ≤ room → written words room x ≡ answered a
     unfolding written
     written-answered h = rw e (simp (le-ltb _ _ h))
+
+module _ {A : Type 0} (x : Outcome A) {n room : ℕ} where
+  pub room-few : room < n → withRoom n room x ≡ refused listFull
+  unfolding withRoom
+  room-few h = simp (lt-ltb _ _ h)
+
+  pub room-enough : n ≤ room → withRoom n room x ≡ x
+  unfolding withRoom
+  room-enough h = simp (le-ltb _ _ h)
+
+-- A call that asks for n words of its second list: its callee has the outcome x and leaves m in the first.
+module _ {A : Type 0} (words words′ : A → List ℕ) (n : ℕ) (x : Outcome A) (l l′ : List ℕ) where
+  pub both-short : length l′ < n → Both words words′ (withRoom n (length l′) x) l l l′ l′ listFull
+  both-short h = let e = room-few x h in out-both (out-refused words l e) (out-refused words′ l′ e)
+
+  pub both-answered : n ≤ length l′ → {m m′ : List ℕ} {r : ℕ} → m ≡ listAfter words x l → Out words′ x l′ m′ r → Both words words′ (withRoom n (length l′) x) l m l′ m′ r
+  both-answered h e o = rw (room-enough x h) (out-both (record { answer = o .answer; list = e }) o)

@@ -2,3 +2,4 @@ pub mod AnswerLaws
 pub mod RecordLaws
 pub mod JournalLaws
 pub mod WindowLaws
+pub mod CarverLaws

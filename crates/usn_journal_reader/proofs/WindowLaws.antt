@@ -22,8 +22,8 @@ use Rattle.usn_reader.specs.declared.Answer.{Answer}
 use Rattle.usn_reader.specs.declared.Answer.the-variants.{Record, Wants, End, Refused}
 use Rattle.usn_reader.specs.declared.Reading.{Reading}
 use Rattle.usn_journal_reader.specs.Answers.{number, unlessRefused}
-use Rattle.usn_journal_reader.specs.Window.{readerWords, readerOf, answerWords, windowWords, readingWords, outcomeBy, readingOutcome, asksWindow, newCall, nextCall, giveCall, giveBuffer}
-use Rattle.usn_journal_reader.proofs.AnswerLaws.{Out, One, Both, out-one, out-both, out-refused, out-answered, out-same, asking-few, asking-enough}
+use Rattle.usn_journal_reader.specs.Window.{readerWords, readerOf, answerWords, windowWords, readingWords, outcomeBy, readingOutcome, onWindow, newCall, nextCall, giveCall, giveBuffer}
+use Rattle.usn_journal_reader.proofs.AnswerLaws.{One, Both, out-one, out-both, out-refused, out-answered, room-few, room-enough}
 use Rattle.usn_journal_reader.proofs.RecordLaws.{record-words}
 
 -- the row that code makes of a window
@@ -35,16 +35,6 @@ reader-made w = ap (λ (n : ℕ). w .start ∷ w .position ∷ w .end ∷ w .hel
     flag true = refl
     flag false = refl
 
--- the words that a call leaves are those of its window: the next call reads it back
-pub reader-again : (w : UsnJournalReader) (l : List ℕ) → readerOf (overwrite l (readerWords w)) ≡ w
-unfolding readerWords
-reader-again w l =
-    ap (λ (b : Bool). record { start = w .start; position = w .position; end = w .end; held = w .held; total = w .total; ended = b }) (flag (w .ended))
-  where
-    flag : (b : Bool) → not (eqb (cond b 1 0) 0) ≡ b
-    flag true = refl
-    flag false = refl
-
 reader-words : (w : UsnJournalReader) → length (readerWords w) ≡ 6
 unfolding readerWords
 reader-words w = refl
@@ -53,12 +43,15 @@ reader-words w = refl
 abbrev pub Told : Outcome Reading → List ℕ → List ℕ → List ℕ → List ℕ → ℕ → Type 0
 Told = Both windowWords readingWords
 
+pub told-refused : (l o : List ℕ) {x : Outcome Reading} {n : ℕ} → x ≡ refused n → Told x l l o o n
+told-refused l o e = out-both (out-refused windowWords l e) (out-refused readingWords o e)
+
 module _ (x : Reading) (l o : List ℕ) where
   by : {a : Answer} → x .answer ≡ a → readingOutcome x ≡ outcomeBy a x
   by e = ap (λ (a : Answer). outcomeBy a x) e
 
   pub reading-refused : {n : ℕ} → x .answer ≡ Refused n → Told (readingOutcome x) l l o o n
-  reading-refused e = out-both (out-refused windowWords l (by e)) (out-refused readingWords o (by e))
+  reading-refused e = told-refused l o (by e)
 
   module _ (h : 6 ≤ length l) (k : 22 ≤ length o) {l′ : List ℕ} (f : l′ ≡ sets l 0 (readerWords (x .reader))) where
     told : {row o′ : List ℕ} → readingOutcome x ≡ answered x → answerWords (x .answer) ≡ row → length row ≤ 22 → o′ ≡ sets o 0 row → Told (readingOutcome x) l l′ o o′ 0
@@ -82,43 +75,31 @@ module _ (x : Reading) (l o : List ℕ) where
 
 -- a new window
 module _ (total : ℕ) (l : List ℕ) where
-  pub new-few : length l < 6 → One readerWords (newCall total (length l)) l l 5
-  unfolding newCall
-  new-few h = out-one (out-refused readerWords l (asking-few _ h))
+  pub new-short : length l < 6 → One readerWords (newCall total l) l l 5
+  new-short h = out-one (out-refused readerWords l (room-few _ h))
 
-  pub new-answers : 6 ≤ length l → {w : UsnJournalReader} {l′ : List ℕ} → w ≡ fresh total → l′ ≡ sets l 0 (readerWords w) → One readerWords (newCall total (length l)) l l′ 0
-  unfolding newCall
-  new-answers h e g = out-one (out-answered readerWords l (asking-enough _ h) (omega (arith, reader-words (fresh total))) (ap readerWords e) g)
+  pub new-answers : 6 ≤ length l → {w : UsnJournalReader} {l′ : List ℕ} → w ≡ fresh total → l′ ≡ sets l 0 (readerWords w) → One readerWords (newCall total l) l l′ 0
+  new-answers h e g = out-one (out-answered readerWords l (room-enough _ h) (omega (arith, reader-words (fresh total))) (ap readerWords e) g)
 
--- The next answer and the giving of bytes: lent lists of n and m words that are too short are refused first.
-abbrev pub Short : ℕ → ℕ → Type 0
-Short n m = (x : Outcome Reading) → asksWindow n m x ≡ refused listFull
+-- a call on a window: lists that are too short are refused first
+module _ (l o : List ℕ) (x : Reading) where
+  pub short-reader : length l < 6 → onWindow l o x ≡ refused listFull
+  unfolding onWindow
+  short-reader h = room-few _ h
 
-module _ (n m : ℕ) where
-  pub short-reader : n < 6 → Short n m
-  unfolding asksWindow
-  short-reader h x = asking-few _ h
+  module _ (h : 6 ≤ length l) where
+    pub short-out : length o < 22 → onWindow l o x ≡ refused listFull
+    unfolding onWindow
+    short-out k = room-enough _ h ∙ room-few _ k
 
-  pub short-out : 6 ≤ n → m < 22 → Short n m
-  unfolding asksWindow
-  short-out h k x = asking-enough _ h ∙ asking-few _ k
+    window-answers : 22 ≤ length o → onWindow l o x ≡ readingOutcome x
+    unfolding onWindow
+    window-answers k = room-enough _ h ∙ room-enough _ k
 
-  enough : 6 ≤ n → 22 ≤ m → (x : Outcome Reading) → asksWindow n m x ≡ x
-  unfolding asksWindow
-  enough h k x = asking-enough _ h ∙ asking-enough _ k
-
-told-refused : (l o : List ℕ) {x : Outcome Reading} {n : ℕ} → x ≡ refused n → Told x l l o o n
-told-refused l o e = out-both (out-refused windowWords l e) (out-refused readingWords o e)
-
-module _ (l b o : List ℕ) where
-  pub next-short : Short (length l) (length o) → Told (nextCall l b (length o)) l l o o 5
-  unfolding nextCall
-  next-short h = told-refused l o (h _)
-
-  pub next-answers : 6 ≤ length l → 22 ≤ length o → {w : UsnJournalReader} → w ≡ readerOf l → {x : Reading} → x ≡ nextOf (bufferReads b) (length b) w
-      → {l′ o′ : List ℕ} {r : ℕ} → Told (readingOutcome x) l l′ o o′ r → Told (nextCall l b (length o)) l l′ o o′ r
-  unfolding nextCall
-  next-answers h k e f t = rw (enough _ _ h k) (rw (f, e) at t)
+-- the next answer x is that of the window w that is read from l
+pub next-answers : (l b o : List ℕ) → 6 ≤ length l → 22 ≤ length o → {w : UsnJournalReader} → w ≡ readerOf l → {x : Reading} → x ≡ nextOf (bufferReads b) (length b) w
+    → {l′ o′ : List ℕ} {r : ℕ} → Told (readingOutcome x) l l′ o o′ r → Told (nextCall l b o) l l′ o o′ r
+next-answers l b o h k e f t = rw (window-answers l o _ h k) (rw (f, e) at t)
 
 -- A giving that is refused leaves the buffer: a reading v that is no refusal, or one, by the test that decides on both.
 kept : (t : Bool) (v : Reading) (n : ℕ) (w : UsnJournalReader) (b b′ : List ℕ) → readingOutcome v ≡ answered v
@@ -139,17 +120,37 @@ buffer-kept b x w = kept (eqb (giveRefusal (length b) (length x) w) 0) _ _ _ b _
 -- what giving has to show, with b′ for the buffer
 abbrev pub Given : List ℕ → List ℕ → List ℕ → List ℕ → List ℕ → List ℕ → List ℕ → ℕ → Type 0
 Given l b bytes o l′ b′ o′ r =
-    let x = giveCall l b bytes (length o) in
-    (r ≡ number x) × ((l′ ≡ listAfter windowWords x l) × ((b′ ≡ giveBuffer l b bytes (length o)) × (o′ ≡ listAfter readingWords x o)))
+    let x = giveCall l b bytes o in
+    (r ≡ number x) × ((l′ ≡ listAfter windowWords x l) × ((b′ ≡ giveBuffer l b bytes o) × (o′ ≡ listAfter readingWords x o)))
 
 module _ (l b bytes o : List ℕ) where
-  pub give-short : Short (length l) (length o) → Given l b bytes o l b o 5
-  unfolding giveCall
-  give-short h = let t = told-refused l o (h _) in (t .0, (t .1 .0, (rw (h _), t .1 .1)))
+  pub give-refused : giveCall l b bytes o ≡ refused listFull → Given l b bytes o l b o 5
+  give-refused e = let t = told-refused l o e in (t .0, (t .1 .0, (rw e, t .1 .1)))
 
   pub give-answers : 6 ≤ length l → 22 ≤ length o → {w : UsnJournalReader} → w ≡ readerOf l → {x : Reading} → x ≡ giveOf (length b) (length bytes) w
       → {b′ : List ℕ} → b′ ≡ bufferAfter b bytes w → {l′ o′ : List ℕ} {r : ℕ} → Told (readingOutcome x) l l′ o o′ r → Given l b bytes o l′ b′ o′ r
-  unfolding giveCall
   give-answers h k e f g t =
       let u = rw (f, e) at t in
-      rw (enough _ _ h k) (u .0, (u .1 .0, ((rw e at g) ∙ buffer-kept b bytes (readerOf l), u .1 .1)))
+      rw (window-answers l o _ h k) (u .0, (u .1 .0, ((rw e at g) ∙ buffer-kept b bytes (readerOf l), u .1 .1)))
+
+-- the words that a call leaves are those of its window: the next call reads it back
+pub reader-again : (w : UsnJournalReader) (l : List ℕ) → readerOf (overwrite l (readerWords w)) ≡ w
+unfolding readerWords
+reader-again w l =
+    ap (λ (b : Bool). record { start = w .start; position = w .position; end = w .end; held = w .held; total = w .total; ended = b }) (flag (w .ended))
+  where
+    flag : (b : Bool) → not (eqb (cond b 1 0) 0) ≡ b
+    flag true = refl
+    flag false = refl
+
+-- giving never answers a record: its answer has three words, or none where it is refused
+pub give-words : (n k : ℕ) (w : UsnJournalReader) → length (readingWords (giveOf n k w)) ≤ 3
+unfolding giveOf answerWords
+give-words n k w = cases (eqb (giveRefusal n k w) 0) (eqb k 0) (eqb (wantedOf w) 0)
+  where
+    cases : (s t u : Bool)
+        → length (readingWords (cond s (cond t (cond u (asking w) (reading End (finished w))) (asking (fedBy w k))) (reading (Refused (giveRefusal n k w)) w))) ≤ 3
+    cases true true true = omega arith
+    cases true true false = omega arith
+    cases true false u = omega arith
+    cases false t u = omega arith

@@ -13,8 +13,8 @@ written words room (refused n) = refused n
 written words room (answered a) = cond (ltb room (length (words a))) (refused listFull) (answered a)
 
 -- a call that asks for so many words is refused before anything else where the lent list has fewer
-unfoldable pub asking : {A : Type 0} → ℕ → ℕ → Outcome A → Outcome A
-asking words room x = cond (ltb room words) (refused listFull) x
+unfoldable pub withRoom : {A : Type 0} → ℕ → ℕ → Outcome A → Outcome A
+withRoom words room x = cond (ltb room words) (refused listFull) x
 
 -- 0, or the refusal's number
 abbrev pub number : {A : Type 0} → Outcome A → ℕ

@@ -5,13 +5,13 @@ use lib.ListN.{length}
 use Rattle.walk.specs.Outcome.{Outcome}
 use Rattle.walk.specs.declared.Place.{Place}
 use Rattle.usn_journal.specs.Outcome.{scan}
-use Rattle.usn_journal_reader.specs.Answers.{asking}
+use Rattle.usn_journal_reader.specs.Answers.{withRoom}
 
--- the scan of s with lent lists of so many words: one for the records' places, and one that takes a word
-unfoldable pub journalCall : List ℕ → ℕ → ℕ → Outcome (List Place)
-journalCall s list out = asking 1 out (scan s list)
+-- the scan of s, with lent lists for the records' places and for their number
+abbrev pub journalCall : List ℕ → List ℕ → List ℕ → Outcome (List Place)
+journalCall s list out = withRoom 1 (length out) (scan s (length list))
 
--- the word that goes out: how many records there are
+-- a number as a word, and that of the records
 abbrev pub countWords : ℕ → List ℕ
 countWords n = n ∷ []
 

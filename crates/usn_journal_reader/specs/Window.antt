@@ -13,7 +13,7 @@ use Rattle.usn_reader.specs.declared.UsnJournalReader.{UsnJournalReader}
 use Rattle.usn_reader.specs.declared.Answer.{Answer}
 use Rattle.usn_reader.specs.declared.Answer.the-variants.{Record, Wants, End, Refused}
 use Rattle.usn_reader.specs.declared.Reading.{Reading}
-use Rattle.usn_journal_reader.specs.Answers.{asking, unlessRefused}
+use Rattle.usn_journal_reader.specs.Answers.{withRoom, unlessRefused}
 
 -- a window's numbers as six words; whether it has ended is 1 or 0
 unfoldable pub readerWords : UsnJournalReader → List ℕ
@@ -55,22 +55,21 @@ outcomeBy End x = answered x
 abbrev pub readingOutcome : Reading → Outcome Reading
 readingOutcome x = outcomeBy (x .answer) x
 
--- the calls, with lent lists of so many words for the window and for the answer: these many have room for any
-unfoldable pub asksWindow : {A : Type 0} → ℕ → ℕ → Outcome A → Outcome A
-asksWindow reader out x = asking 6 reader (asking 22 out x)
+-- a new window over a stream of so many bytes, with a lent list l for its words
+abbrev pub newCall : ℕ → List ℕ → Outcome UsnJournalReader
+newCall total l = withRoom 6 (length l) (answered (fresh total))
 
--- a new window over a stream of so many bytes
-unfoldable pub newCall : ℕ → ℕ → Outcome UsnJournalReader
-newCall total reader = asking 6 reader (answered (fresh total))
+-- a call on a window asks for the words of a window and for those of the longest answer, a record's
+unfoldable pub onWindow : List ℕ → List ℕ → Reading → Outcome Reading
+onWindow l out x = withRoom 6 (length l) (withRoom 22 (length out) (readingOutcome x))
 
--- the next answer of the window that the words l are, with the buffer b
-unfoldable pub nextCall : List ℕ → List ℕ → ℕ → Outcome Reading
-nextCall l b out = asksWindow (length l) out (readingOutcome (nextOf (bufferReads b) (length b) (readerOf l)))
+-- the next answer of the window that l is, with the buffer b
+abbrev pub nextCall : List ℕ → List ℕ → List ℕ → Outcome Reading
+nextCall l b out = onWindow l out (nextOf (bufferReads b) (length b) (readerOf l))
 
--- giving the bytes x to it
-unfoldable pub giveCall : List ℕ → List ℕ → List ℕ → ℕ → Outcome Reading
-giveCall l b x out = asksWindow (length l) out (readingOutcome (giveOf (length b) (length x) (readerOf l)))
+-- giving it the bytes x, and what the buffer holds after that
+abbrev pub giveCall : List ℕ → List ℕ → List ℕ → List ℕ → Outcome Reading
+giveCall l b x out = onWindow l out (giveOf (length b) (length x) (readerOf l))
 
--- and what the buffer holds after that
-abbrev pub giveBuffer : List ℕ → List ℕ → List ℕ → ℕ → List ℕ
+abbrev pub giveBuffer : List ℕ → List ℕ → List ℕ → List ℕ → List ℕ
 giveBuffer l b x out = unlessRefused (giveCall l b x out) b (bufferAfter b x (readerOf l))

@@ -1,15 +1,15 @@
 -- Lists that are too short are refused first; otherwise the window's equations say what goes out.
 use borrow.Author.Needs.{needs}
 use denote.Ref.{now}
-use Rattle.usn_journal_reader.proofs.WindowLaws.{short-reader, short-out, give-short, give-answers}
+use Rattle.usn_journal_reader.proofs.WindowLaws.{short-reader, short-out, give-refused, give-answers}
 use Rattle.usn_journal_reader.proofs.usn_reader_give.Statement.{statement}
 use Rattle.usn_journal_reader.proofs.usn_reader_give.Tie as tie
 
 returns : tie.Need-returns
-returns c = give-short _ _ (now (c .before .before .before .before .before .args .bytes)) (now (c .before .before .before .before .before .args .out)) (short-reader _ _ (c .if1 .taken))
+returns c = give-refused _ _ (now (c .before .before .before .before .before .args .bytes)) (now (c .before .before .before .before .before .args .out)) (short-reader _ _ _ (c .if1 .taken))
 
 returns-2 : tie.Need-returns-2
-returns-2 c = give-short _ _ (now (c .before .before .before .before .before .before .args .bytes)) (now (c .before .before .before .before .before .before .args .out)) (short-out _ _ (c .before .if1 .left) (c .if2 .taken))
+returns-2 c = give-refused _ _ (now (c .before .before .before .before .before .before .args .bytes)) (now (c .before .before .before .before .before .before .args .out)) (short-out _ _ _ (c .before .if1 .left) (c .if2 .taken))
 
 reader-of-requires : tie.Need-reader-of-requires
 reader-of-requires c κs = search needs

@@ -1,12 +1,12 @@
 -- Too few words are refused first; otherwise those of the new window are stored.
 use borrow.Author.Needs.{needs}
 use denote.Ref.{now}
-use Rattle.usn_journal_reader.proofs.WindowLaws.{new-few, new-answers}
+use Rattle.usn_journal_reader.proofs.WindowLaws.{new-short, new-answers}
 use Rattle.usn_journal_reader.proofs.usn_reader_new.Statement.{statement}
 use Rattle.usn_journal_reader.proofs.usn_reader_new.Tie as tie
 
 returns : tie.Need-returns
-returns c = new-few _ (now (c .before .before .args .reader)) (c .if1 .taken)
+returns c = new-short _ (now (c .before .before .args .reader)) (c .if1 .taken)
 
 new-requires : tie.Need-new-requires
 new-requires c κs = search needs

@@ -1,15 +1,15 @@
 -- Lists that are too short are refused first; otherwise the window's equation says what goes out.
 use borrow.Author.Needs.{needs}
 use denote.Ref.{now}
-use Rattle.usn_journal_reader.proofs.WindowLaws.{short-reader, short-out, next-short, next-answers}
+use Rattle.usn_journal_reader.proofs.WindowLaws.{told-refused, short-reader, short-out, next-answers}
 use Rattle.usn_journal_reader.proofs.usn_reader_next.Statement.{statement}
 use Rattle.usn_journal_reader.proofs.usn_reader_next.Tie as tie
 
 returns : tie.Need-returns
-returns c = next-short _ _ (now (c .before .before .before .before .args .out)) (short-reader _ _ (c .if1 .taken))
+returns c = told-refused (now (c .before .before .before .before .args .reader)) (now (c .before .before .before .before .args .out)) (short-reader _ _ _ (c .if1 .taken))
 
 returns-2 : tie.Need-returns-2
-returns-2 c = next-short _ _ (now (c .before .before .before .before .before .args .out)) (short-out _ _ (c .before .if1 .left) (c .if2 .taken))
+returns-2 c = told-refused (now (c .before .before .before .before .before .args .reader)) (now (c .before .before .before .before .before .args .out)) (short-out _ _ _ (c .before .if1 .left) (c .if2 .taken))
 
 reader-of-requires : tie.Need-reader-of-requires
 reader-of-requires c κs = search needs
