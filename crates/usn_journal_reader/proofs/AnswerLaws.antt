@@ -1,59 +1,78 @@
--- What a parser's answer p goes out as, case by case. Assumes nothing.
+-- An outcome goes out of a call as a number and words. Assumes nothing.
 use Prim.Native.Nat.{ℕ, _≤_, _<_}
-use mathlib.Core.Path.{_≡_, refl, sym, ap, _∙_}
-use mathlib.Core.List.{List, [], _∷_}
-use native.Mathlib.Omega.{arith}
+use mathlib.Core.Path.{_≡_, refl}
+use mathlib.Core.List.{List}
 use lib.ListN.{length}
 use lib.Seq.{sets}
 use borrow.Author.Tests.{lt-ltb, le-ltb}
-use mir.Syntax.{w64}
-use mir.Val.{toZ, ofZ, SFits}
-use mir.ValLaws.{toZ-ofZ}
-use Rattle.walk.specs.Outcome.{Outcome, refused, answered}
+use Rattle.walk.specs.Outcome.{Outcome, refused, answered, mapOutcome}
 use Rattle.walk.specs.Lists.{listAfter}
+use Rattle.walk.specs.Refusals.{listFull}
 use Rattle.walk.proofs.ListLaws.{sets-front}
-use Rattle.usn_record.specs.Record.{outcome, recordWords}
-use Rattle.usn_record.specs.declared.UsnRecord.{UsnRecord}
-use Rattle.usn_record.specs.declared.Parsed.{Parsed}
-use Rattle.usn_record.specs.declared.Parsed.the-variants.{Record, Refused}
-use Rattle.usn_journal_reader.specs.Answers.{number, written}
+use Rattle.usn_journal_reader.specs.Answers.{number, written, withRoom}
 
-pub record-words : (r : UsnRecord) → length (recordWords r) ≡ 19
-unfolding recordWords
-record-words r = refl
-
--- the row that code makes of a record, where u and f are the bits of its USN and its time as the code passes them on
-pub row-made : (r : UsnRecord) → SFits w64 (r .usn) → SFits w64 (r .filetime) → {u f : ℕ} → u ≡ ofZ w64 (toZ w64 (ofZ w64 (r .usn))) → f ≡ ofZ w64 (toZ w64 (ofZ w64 (r .filetime)))
-    → (r .«mft_entry» ∷ r .«mft_sequence» ∷ r .«parent_mft_entry» ∷ r .«parent_mft_sequence» ∷ u ∷ r .timestamp .seconds ∷ r .timestamp .nanoseconds ∷ r .reason
-    ∷ r .«file_attributes» ∷ r .«source_info» ∷ r .«security_id» ∷ r .«major_version» ∷ r .filename .offset ∷ r .filename .length ∷ r .«record_length» ∷ r .«minor_version» ∷ f
-    ∷ r .«file_reference_high» ∷ r .«parent_reference_high» ∷ []) ≡ recordWords r
-unfolding recordWords
-row-made r a b e g = rw (e, g, toZ-ofZ w64 (r .usn) a, toZ-ofZ w64 (r .filetime) b)
-
--- the number r goes out, and the lent list that was l is m
+-- the number r goes out, and a lent list that was l is m
 pub record Out {A : Type 0} (words : A → List ℕ) (x : Outcome A) (l m : List ℕ) (r : ℕ) : Type 0 where
-  pub answer : r ≡ number (written words (length l) x)
-  pub list : m ≡ listAfter words (written words (length l) x) l
+  pub answer : r ≡ number x
+  pub list : m ≡ listAfter words x l
 
--- an outcome that equals another goes out as it does
-pub out-same : (l : List ℕ) {x y : Outcome UsnRecord} {m : List ℕ} {r : ℕ} → x ≡ y → r ≡ number (written recordWords (length l) x) → m ≡ listAfter recordWords (written recordWords (length l) x) l
-    → (r ≡ number (written recordWords (length l) y)) × (m ≡ listAfter recordWords (written recordWords (length l) y) l)
-out-same l e a b = (rw e at a, rw e at b)
-
-module _ (p : Parsed) (l : List ℕ) where
-  pub out-refused : {n : ℕ} → p ≡ Refused n → Out recordWords (outcome p) l l n
-  unfolding written
+module _ {A : Type 0} (words : A → List ℕ) (l : List ℕ) {x : Outcome A} where
+  pub out-refused : {n : ℕ} → x ≡ refused n → Out words x l l n
   out-refused e = rw e (record { answer = refl; list = refl })
 
-  module _ {r : UsnRecord} (e : p ≡ Record r) where
-    pub out-full : length l < 19 → Out recordWords (outcome p) l l 5
-    unfolding written
-    out-full h =
-        let k : length l < length (recordWords r) = omega (arith, record-words r) in
-        rw e (record { answer = simp (lt-ltb _ _ k); list = simp (lt-ltb _ _ k) })
+  pub out-answered : {a : A} {row m : List ℕ} → x ≡ answered a → length (words a) ≤ length l → row ≡ words a → m ≡ sets l 0 row → Out words x l m 0
+  out-answered {a} e h f g = rw (e, g, f) (record { answer = refl; list = sets-front l (words a) h })
 
-    pub out-record : 19 ≤ length l → {row m : List ℕ} → row ≡ recordWords r → m ≡ sets l 0 row → Out recordWords (outcome p) l m 0
+-- what a call with one lent list has to show, and one with two
+abbrev pub One : {A : Type 0} → (A → List ℕ) → Outcome A → List ℕ → List ℕ → ℕ → Type 0
+One words x l m r = (r ≡ number x) × (m ≡ listAfter words x l)
+
+abbrev pub Both : {A : Type 0} → (A → List ℕ) → (A → List ℕ) → Outcome A → List ℕ → List ℕ → List ℕ → List ℕ → ℕ → Type 0
+Both words words′ x l m l′ m′ r = (r ≡ number x) × ((m ≡ listAfter words x l) × (m′ ≡ listAfter words′ x l′))
+
+pub out-one : {A : Type 0} {words : A → List ℕ} {x : Outcome A} {l m : List ℕ} {r : ℕ} → Out words x l m r → One words x l m r
+out-one o = (o .answer, o .list)
+
+pub out-both : {A : Type 0} {words words′ : A → List ℕ} {x : Outcome A} {l m l′ m′ : List ℕ} {r : ℕ} → Out words x l m r → Out words′ x l′ m′ r → Both words words′ x l m l′ m′ r
+out-both o p = (o .answer, (o .list, p .list))
+
+module _ {A : Type 0} {words : A → List ℕ} {l m : List ℕ} {r : ℕ} where
+  -- an outcome that equals another goes out as it does
+  pub out-same : {x y : Outcome A} → Out words x l m r → x ≡ y → Out words y l m r
+  out-same o e = rw e at o
+
+  -- and one that is made of another goes out as that one does, with the words of what is made
+  pub out-mapped : {B : Type 0} {f : B → A} (x : Outcome B) → Out words (mapOutcome f x) l m r → Out (λ b. words (f b)) x l m r
+  out-mapped (refused n) o = record { answer = o .answer; list = o .list }
+  out-mapped (answered b) o = record { answer = o .answer; list = o .list }
+
+module _ {A : Type 0} (words : A → List ℕ) (room : ℕ) {x : Outcome A} where
+  pub written-refused : {n : ℕ} → x ≡ refused n → written words room x ≡ refused n
+  unfolding written
+  written-refused e = rw e
+
+  module _ {a : A} (e : x ≡ answered a) where
+    pub written-full : room < length (words a) → written words room x ≡ refused listFull
     unfolding written
-    out-record h f g =
-        let k : length (recordWords r) ≤ length l = omega (arith, record-words r) in
-        rw (e, g, f) (record { answer = simp (le-ltb _ _ k); list = simp (le-ltb _ _ k) (sets-front l (recordWords r) k) })
+    written-full h = rw e (simp (lt-ltb _ _ h))
+
+    pub written-answered : length (words a) ≤ room → written words room x ≡ answered a
+    unfolding written
+    written-answered h = rw e (simp (le-ltb _ _ h))
+
+module _ {A : Type 0} (x : Outcome A) {n room : ℕ} where
+  pub room-few : room < n → withRoom n room x ≡ refused listFull
+  unfolding withRoom
+  room-few h = simp (lt-ltb _ _ h)
+
+  pub room-enough : n ≤ room → withRoom n room x ≡ x
+  unfolding withRoom
+  room-enough h = simp (le-ltb _ _ h)
+
+-- A call that asks for n words of its second list: its callee has the outcome x and leaves m in the first.
+module _ {A : Type 0} (words words′ : A → List ℕ) (n : ℕ) (x : Outcome A) (l l′ : List ℕ) where
+  pub both-short : length l′ < n → Both words words′ (withRoom n (length l′) x) l l l′ l′ listFull
+  both-short h = let e = room-few x h in out-both (out-refused words l e) (out-refused words′ l′ e)
+
+  pub both-answered : n ≤ length l′ → {m m′ : List ℕ} {r : ℕ} → m ≡ listAfter words x l → Out words′ x l′ m′ r → Both words words′ (withRoom n (length l′) x) l m l′ m′ r
+  both-answered h e o = rw (room-enough x h) (out-both (record { answer = o .answer; list = e }) o)

@@ -1,16 +1,41 @@
 // The journal reader as C functions, for Rust or C to link: a slice is a pointer and a length, and an answer goes out as a
 // number, 0 or a refusal's, with its words in a lent list.
 //
-// Every function here is proved, and none has a `requires`. A refused call writes nothing.
+//     usn_parse_record_v2, usn_parse_record_v3    the record that a slice begins with
+//     usn_listed_record                           the record at an offset of an extract
+//     usn_parse_journal                           the places of an extract's records
+//     usn_reader_new, usn_reader_next, usn_reader_give
+//                                                 the records of a journal that is delivered in pieces
+//     usn_carve_records                           the places of the records in raw bytes
+//
+// Every function here is proved, and none has a `requires`. A refused call writes nothing, and one that answers writes the words
+// of its answer alone: those past them stay as they were.
+mod carver;
+mod journal;
 mod record_words;
+mod window;
 
 ghost use mathlib.Core.Path.{_≡_};
 ghost use lib.ListN.{length};
-ghost use Rattle.walk.specs.Lists.{listAfter};
+ghost use Rattle.walk.specs.Lists.{flatten, listAfter, placeWords};
 ghost use Rattle.usn_record.specs.Layout.{v2, v3};
 ghost use Rattle.usn_record.specs.Record.{parsed, listed, recordWords};
 ghost use Rattle.usn_journal_reader.specs.Answers.{number, written};
+ghost use Rattle.usn_journal_reader.specs.Carver.{carveCall, carvedWords, statsWords};
+ghost use Rattle.usn_journal_reader.specs.Journal.{journalCall, journalWords};
+ghost use Rattle.usn_journal_reader.specs.Window.{readerWords, windowWords, readingWords, newCall, nextCall, giveCall, giveBuffer};
+use crate::carver::STATS_WORDS;
+use crate::carver::put_stats;
+use crate::journal::JOURNAL_WORDS;
+use crate::journal::put_count;
 use crate::record_words::put_record;
+use crate::window::ANSWER_WORDS;
+use crate::window::READER_WORDS;
+use crate::window::put_reader;
+use crate::window::put_reading;
+use crate::window::reader_of;
+use usn_reader::UsnJournalReader;
+use walk::LIST_FULL;
 
 // The version 2 record that data begins with, as 19 words. Answers 0, or refuses: 1 data is above the domain, 2 shorter than
 // 60 bytes, 3 the length field is outside 60..65536, 4 it passes data, 5 fewer than 19 words are lent.
@@ -40,4 +65,95 @@ pub extern "C" fn usn_listed_record(extract: &[u8], offset: usize, words: &mut [
     ensures { λ _. ⌜ now (words .exit) ≡ listAfter recordWords (written recordWords (length (now (words .entry))) (listed (now (extract .entry)) offset)) (now (words .entry)) ⌝ }
 {
     put_record(usn_record::listed_record(extract, offset), words)
+}
+
+// The version 2 and 3 records of an extract, in order: how many, a word of out, and for each its offset and length, two words
+// of list. Answers 0, or refuses: 5 out has no word, 1 the extract is above the domain, 5 list has fewer than two words for each
+// record.
+#[no_mangle]
+pub extern "C" fn usn_parse_journal(extract: &[u8], list: &mut [usize], out: &mut [u64]) -> u32
+    ensures { λ r. ⌜ r ≡ number (journalCall (now (extract .entry)) (now (list .entry)) (now (out .entry))) ⌝ }
+    ensures { λ _. ⌜ now (list .exit) ≡ listAfter (flatten placeWords) (journalCall (now (extract .entry)) (now (list .entry)) (now (out .entry))) (now (list .entry)) ⌝ }
+    ensures { λ _. ⌜ now (out .exit) ≡ listAfter journalWords (journalCall (now (extract .entry)) (now (list .entry)) (now (out .entry))) (now (out .entry)) ⌝ }
+{
+    if out.len() < JOURNAL_WORDS {
+        return LIST_FULL;
+    }
+    put_count(usn_journal::parse_usn_journal(extract, list), out)
+}
+
+// A window over a journal of total bytes, as 6 words of reader: start, position, end, held, total, and 1 where it has ended,
+// else 0. The calls below take these words and leave those of the window after the call.
+// Answers 0, or refuses: 5 reader has fewer than 6 words.
+#[no_mangle]
+pub extern "C" fn usn_reader_new(total: u64, reader: &mut [u64]) -> u32
+    ensures { λ r. ⌜ r ≡ number (newCall total (now (reader .entry))) ⌝ }
+    ensures { λ _. ⌜ now (reader .exit) ≡ listAfter readerWords (newCall total (now (reader .entry))) (now (reader .entry)) ⌝ }
+{
+    if reader.len() < READER_WORDS {
+        return LIST_FULL;
+    }
+    put_reader(UsnJournalReader::new(total as usize), reader);
+    0
+}
+
+// The next record of the journal, 22 words of out: 2, its offset in the journal, its length and its 19 words, the name's place
+// counted from the buffer's start. Or 3 words: 1, from where on bytes are wanted first, how many; or 0, 0, 0 at the end.
+// Answers 0, or refuses: 5 reader has fewer than 6 words or out fewer than 22, 1 the total is above 1099511627776,
+// 11 the buffer is not 65536 long, 9 the numbers cannot be a window's.
+#[no_mangle]
+pub extern "C" fn usn_reader_next(reader: &mut [u64], buffer: &[u8], out: &mut [u64]) -> u32
+    ensures { λ r. ⌜ r ≡ number (nextCall (now (reader .entry)) (now (buffer .entry)) (now (out .entry))) ⌝ }
+    ensures { λ _. ⌜ now (reader .exit) ≡ listAfter windowWords (nextCall (now (reader .entry)) (now (buffer .entry)) (now (out .entry))) (now (reader .entry)) ⌝ }
+    ensures { λ _. ⌜ now (out .exit) ≡ listAfter readingWords (nextCall (now (reader .entry)) (now (buffer .entry)) (now (out .entry))) (now (out .entry)) ⌝ }
+{
+    if reader.len() < READER_WORDS {
+        return LIST_FULL;
+    }
+    if out.len() < ANSWER_WORDS {
+        return LIST_FULL;
+    }
+    let w = reader_of(reader);
+    put_reading(w.next(buffer), reader, out)
+}
+
+// Takes bytes of the journal into the buffer, from where the last ones ended. 3 words of out: 1, from where on bytes are still
+// wanted, how many; or 0, 0, 0 at the end, which comes where none are given while some are wanted.
+// Answers 0, or refuses: as the call above, and 10 more bytes are given than are wanted.
+#[no_mangle]
+pub extern "C" fn usn_reader_give(
+    reader: &mut [u64],
+    buffer: &mut [u8],
+    bytes: &[u8],
+    out: &mut [u64],
+) -> u32
+    ensures { λ r. ⌜ r ≡ number (giveCall (now (reader .entry)) (now (buffer .entry)) (now (bytes .entry)) (now (out .entry))) ⌝ }
+    ensures { λ _. ⌜ now (reader .exit) ≡ listAfter windowWords (giveCall (now (reader .entry)) (now (buffer .entry)) (now (bytes .entry)) (now (out .entry))) (now (reader .entry)) ⌝ }
+    ensures { λ _. ⌜ now (buffer .exit) ≡ giveBuffer (now (reader .entry)) (now (buffer .entry)) (now (bytes .entry)) (now (out .entry)) ⌝ }
+    ensures { λ _. ⌜ now (out .exit) ≡ listAfter readingWords (giveCall (now (reader .entry)) (now (buffer .entry)) (now (bytes .entry)) (now (out .entry))) (now (out .entry)) ⌝ }
+{
+    if reader.len() < READER_WORDS {
+        return LIST_FULL;
+    }
+    if out.len() < ANSWER_WORDS {
+        return LIST_FULL;
+    }
+    let w = reader_of(reader);
+    put_reading(w.give(buffer, bytes), reader, out)
+}
+
+// The version 2 and 3 records in raw bytes: for each its offset and length, two words of list, and 5 words of out: the bytes
+// scanned, the candidates examined, the records carved, the candidates rejected for their time and for their structure.
+// Answers 0, or refuses: 5 out has fewer than 5 words, 1 the extract is above the domain, 5 list has fewer than two words for
+// each record.
+#[no_mangle]
+pub extern "C" fn usn_carve_records(extract: &[u8], list: &mut [usize], out: &mut [u64]) -> u32
+    ensures { λ r. ⌜ r ≡ number (carveCall (now (extract .entry)) (now (list .entry)) (now (out .entry))) ⌝ }
+    ensures { λ _. ⌜ now (list .exit) ≡ listAfter (carvedWords (now (extract .entry))) (carveCall (now (extract .entry)) (now (list .entry)) (now (out .entry))) (now (list .entry)) ⌝ }
+    ensures { λ _. ⌜ now (out .exit) ≡ listAfter statsWords (carveCall (now (extract .entry)) (now (list .entry)) (now (out .entry))) (now (out .entry)) ⌝ }
+{
+    if out.len() < STATS_WORDS {
+        return LIST_FULL;
+    }
+    put_stats(usn_carver::carve_usn_records(extract, list), out)
 }

@@ -32,7 +32,7 @@ pub fn put_record(p: Parsed, words: &mut [u64]) -> u32
 }
 
 // The record's fields, a word each.
-fn row_of(r: UsnRecord) -> [u64; 19]
+pub fn row_of(r: UsnRecord) -> [u64; 19]
     ensures { λ row. ⌜ row ≡ recordWords r ⌝ }
 {
     [

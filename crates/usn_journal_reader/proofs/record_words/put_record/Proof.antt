@@ -1,10 +1,8 @@
 -- Each case of the answer, and the stores of its words.
 use borrow.Author.Needs.{needs}
-use native.Mathlib.Omega.{arith}
-use Rattle.usn_journal_reader.proofs.AnswerLaws.{out-refused, out-full, out-record}
-use Prim.Native.Nat.{_≤_, _<_}
-use lib.ListN.{length}
+use Rattle.usn_journal_reader.proofs.RecordLaws.{record-refused, record-full, record-answered}
 use denote.Ref.{now}
+use Rattle.usn_journal_reader.proofs.AnswerLaws.{out-one}
 use Rattle.usn_journal_reader.proofs.record_words.put_record.Statement.{statement}
 use Rattle.usn_journal_reader.proofs.record_words.put_record.Tie as tie
 
@@ -12,7 +10,7 @@ enum-known-p : tie.Need-enum-known-p
 enum-known-p c = search needs
 
 returns : tie.Need-returns
-returns c = let h : length (now (c .before .before .before .before .before .args .words)) < 19 = omega arith in let o = out-full _ _ (c .before .before .p .given .1) h in (o .answer, o .list)
+returns c = out-one (record-full _ (now (c .before .before .before .before .before .args .words)) (c .before .before .p .given .1) (c .if1 .taken))
 
 row-of-requires : tie.Need-row-of-requires
 row-of-requires c κs = search needs
@@ -30,10 +28,10 @@ same-length : tie.Need-same-length
 same-length c = search needs
 
 returns-2 : tie.Need-returns-2
-returns-2 c = let h : 19 ≤ length (now (c .before .before .before .before .before .before .before .before .before .before .before .args .words)) = omega arith in let o = out-record _ _ (c .before .before .before .before .before .before .before .before .p .given .1) h (c .before .before .before .before .before .row-of .ensures) (c .before .before .put-words .ensures) in (o .answer, o .list)
+returns-2 c = out-one (record-answered _ (now (c .before .before .before .before .before .before .before .before .before .before .before .args .words)) (c .before .before .before .before .before .before .before .before .p .given .1) (c .before .before .before .before .before .before .if1 .left) (c .before .before .before .before .before .row-of .ensures) (c .before .before .put-words .ensures))
 
 returns-3 : tie.Need-returns-3
-returns-3 c = let o = out-refused _ (now (c .before .before .before .before .args .words)) (c .before .p2 .given .1) in (o .answer, o .list)
+returns-3 c = out-one (record-refused _ (now (c .before .before .before .before .args .words)) (c .before .p2 .given .1))
 
 pub put-record-spec : {M : Type 1} → statement M
 put-record-spec =

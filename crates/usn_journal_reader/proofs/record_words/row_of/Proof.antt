@@ -1,7 +1,7 @@
 -- The words are the fields in their order.
 use borrow.Author.Needs.{needs}
 use native.Mathlib.Omega.{arith}
-use Rattle.usn_journal_reader.proofs.AnswerLaws.{row-made}
+use Rattle.usn_journal_reader.proofs.RecordLaws.{row-made}
 use Rattle.usn_journal_reader.proofs.record_words.row_of.Statement.{statement}
 use Rattle.usn_journal_reader.proofs.record_words.row_of.Tie as tie
 

@@ -1,0 +1,158 @@
+-- A window as words, what a reading x goes out as, and the window's calls by their tests. Assumes nothing.
+use Prim.Native.Nat.{ℕ, _≤_, _<_}
+use mathlib.Core.Path.{_≡_, refl, sym, ap, _∙_}
+use mathlib.Core.List.{List, [], _∷_}
+use mathlib.Core.Bool.{Bool, true, false, cond, not}
+use native.Mathlib.Omega.{arith}
+use lib.ListN.{length}
+use lib.Seq.{sets}
+use lib.Dec.{eqb}
+use mir.Val.{boolByte}
+use Rattle.walk.specs.Outcome.{Outcome, refused, answered}
+use Rattle.walk.specs.Lists.{listAfter, overwrite}
+use Rattle.walk.specs.Refusals.{listFull}
+use Rattle.walk.proofs.ListLaws.{sets-append}
+use Rattle.usn_record.specs.Record.{recordWords}
+use Rattle.usn_record.specs.declared.UsnRecord.{UsnRecord}
+use Rattle.usn_reader.specs.Window.{fresh, wantedOf, finished, fedBy}
+use Rattle.usn_reader.specs.Rule.{bufferReads, reading, asking}
+use Rattle.usn_reader.specs.Calls.{nextOf, giveOf, giveRefusal, bufferAfter}
+use Rattle.usn_reader.specs.declared.UsnJournalReader.{UsnJournalReader}
+use Rattle.usn_reader.specs.declared.Answer.{Answer}
+use Rattle.usn_reader.specs.declared.Answer.the-variants.{Record, Wants, End, Refused}
+use Rattle.usn_reader.specs.declared.Reading.{Reading}
+use Rattle.usn_journal_reader.specs.Answers.{number, unlessRefused}
+use Rattle.usn_journal_reader.specs.Window.{readerWords, readerOf, answerWords, windowWords, readingWords, outcomeBy, readingOutcome, onWindow, newCall, nextCall, giveCall, giveBuffer}
+use Rattle.usn_journal_reader.proofs.AnswerLaws.{One, Both, out-one, out-both, out-refused, out-answered, room-few, room-enough}
+use Rattle.usn_journal_reader.proofs.RecordLaws.{record-words}
+
+-- the row that code makes of a window
+pub reader-made : (w : UsnJournalReader) → (w .start ∷ w .position ∷ w .end ∷ w .held ∷ w .total ∷ boolByte (w .ended) ∷ []) ≡ readerWords w
+unfolding readerWords
+reader-made w = ap (λ (n : ℕ). w .start ∷ w .position ∷ w .end ∷ w .held ∷ w .total ∷ n ∷ []) (flag (w .ended))
+  where
+    flag : (b : Bool) → boolByte b ≡ cond b 1 0
+    flag true = refl
+    flag false = refl
+
+reader-words : (w : UsnJournalReader) → length (readerWords w) ≡ 6
+unfolding readerWords
+reader-words w = refl
+
+-- A reading x goes out: with the number r, the window's words l are l′, and the answer's words o are o′
+abbrev pub Told : Outcome Reading → List ℕ → List ℕ → List ℕ → List ℕ → ℕ → Type 0
+Told = Both windowWords readingWords
+
+pub told-refused : (l o : List ℕ) {x : Outcome Reading} {n : ℕ} → x ≡ refused n → Told x l l o o n
+told-refused l o e = out-both (out-refused windowWords l e) (out-refused readingWords o e)
+
+module _ (x : Reading) (l o : List ℕ) where
+  by : {a : Answer} → x .answer ≡ a → readingOutcome x ≡ outcomeBy a x
+  by e = ap (λ (a : Answer). outcomeBy a x) e
+
+  pub reading-refused : {n : ℕ} → x .answer ≡ Refused n → Told (readingOutcome x) l l o o n
+  reading-refused e = told-refused l o (by e)
+
+  module _ (h : 6 ≤ length l) (k : 22 ≤ length o) {l′ : List ℕ} (f : l′ ≡ sets l 0 (readerWords (x .reader))) where
+    told : {row o′ : List ℕ} → readingOutcome x ≡ answered x → answerWords (x .answer) ≡ row → length row ≤ 22 → o′ ≡ sets o 0 row → Told (readingOutcome x) l l′ o o′ 0
+    told q e n g =
+        out-both (out-answered windowWords l q (omega (arith, reader-words (x .reader))) refl f)
+        (out-answered readingWords o q (rw e (omega arith)) (sym e) g)
+
+    pub reading-end : x .answer ≡ End → {o′ : List ℕ} → o′ ≡ sets o 0 (0 ∷ 0 ∷ 0 ∷ []) → Told (readingOutcome x) l l′ o o′ 0
+    unfolding answerWords
+    reading-end e g = told (by e) (ap answerWords e) (omega arith) g
+
+    pub reading-wants : {a n : ℕ} → x .answer ≡ Wants a n → {o′ : List ℕ} → o′ ≡ sets o 0 (1 ∷ a ∷ n ∷ []) → Told (readingOutcome x) l l′ o o′ 0
+    unfolding answerWords
+    reading-wants e g = told (by e) (ap answerWords e) (omega arith) g
+
+    pub reading-record : {a n : ℕ} {r : UsnRecord} → x .answer ≡ Record a n r → {o′ o″ row : List ℕ} → o′ ≡ sets o 0 (2 ∷ a ∷ n ∷ []) → row ≡ recordWords r
+        → o″ ≡ sets o′ 3 row → Told (readingOutcome x) l l′ o o″ 0
+    unfolding answerWords
+    reading-record {a} {n} {r} e p q g =
+        told (by e) (ap answerWords e) (omega (arith, record-words r)) (g ∙ rw (p, q) (sym (sets-append o 0 (2 ∷ a ∷ n ∷ []) (recordWords r))))
+
+-- a new window
+module _ (total : ℕ) (l : List ℕ) where
+  pub new-short : length l < 6 → One readerWords (newCall total l) l l 5
+  new-short h = out-one (out-refused readerWords l (room-few _ h))
+
+  pub new-answers : 6 ≤ length l → {w : UsnJournalReader} {l′ : List ℕ} → w ≡ fresh total → l′ ≡ sets l 0 (readerWords w) → One readerWords (newCall total l) l l′ 0
+  new-answers h e g = out-one (out-answered readerWords l (room-enough _ h) (omega (arith, reader-words (fresh total))) (ap readerWords e) g)
+
+-- a call on a window: lists that are too short are refused first
+module _ (l o : List ℕ) (x : Reading) where
+  pub short-reader : length l < 6 → onWindow l o x ≡ refused listFull
+  unfolding onWindow
+  short-reader h = room-few _ h
+
+  module _ (h : 6 ≤ length l) where
+    pub short-out : length o < 22 → onWindow l o x ≡ refused listFull
+    unfolding onWindow
+    short-out k = room-enough _ h ∙ room-few _ k
+
+    window-answers : 22 ≤ length o → onWindow l o x ≡ readingOutcome x
+    unfolding onWindow
+    window-answers k = room-enough _ h ∙ room-enough _ k
+
+-- the next answer x is that of the window w that is read from l
+pub next-answers : (l b o : List ℕ) → 6 ≤ length l → 22 ≤ length o → {w : UsnJournalReader} → w ≡ readerOf l → {x : Reading} → x ≡ nextOf (bufferReads b) (length b) w
+    → {l′ o′ : List ℕ} {r : ℕ} → Told (readingOutcome x) l l′ o o′ r → Told (nextCall l b o) l l′ o o′ r
+next-answers l b o h k e f t = rw (window-answers l o _ h k) (rw (f, e) at t)
+
+-- A giving that is refused leaves the buffer: a reading v that is no refusal, or one, by the test that decides on both.
+kept : (t : Bool) (v : Reading) (n : ℕ) (w : UsnJournalReader) (b b′ : List ℕ) → readingOutcome v ≡ answered v
+    → cond t b′ b ≡ unlessRefused (readingOutcome (cond t v (reading (Refused n) w))) b (cond t b′ b)
+kept true v n w b b′ e = rw e
+kept false v n w b b′ e = refl
+
+accepted : (t u : Bool) (v w : UsnJournalReader)
+    → let x = cond t (cond u (asking v) (reading End (finished v))) (asking w) in readingOutcome x ≡ answered x
+accepted true true v w = refl
+accepted true false v w = refl
+accepted false u v w = refl
+
+buffer-kept : (b x : List ℕ) (w : UsnJournalReader) → bufferAfter b x w ≡ unlessRefused (readingOutcome (giveOf (length b) (length x) w)) b (bufferAfter b x w)
+unfolding giveOf bufferAfter
+buffer-kept b x w = kept (eqb (giveRefusal (length b) (length x) w) 0) _ _ _ b _ (accepted (eqb (length x) 0) (eqb (wantedOf w) 0) w (fedBy w (length x)))
+
+-- what giving has to show, with b′ for the buffer
+abbrev pub Given : List ℕ → List ℕ → List ℕ → List ℕ → List ℕ → List ℕ → List ℕ → ℕ → Type 0
+Given l b bytes o l′ b′ o′ r =
+    let x = giveCall l b bytes o in
+    (r ≡ number x) × ((l′ ≡ listAfter windowWords x l) × ((b′ ≡ giveBuffer l b bytes o) × (o′ ≡ listAfter readingWords x o)))
+
+module _ (l b bytes o : List ℕ) where
+  pub give-refused : giveCall l b bytes o ≡ refused listFull → Given l b bytes o l b o 5
+  give-refused e =
+      let t = told-refused l o e in
+      (t .0, (t .1 .0, (ap (λ (y : Outcome Reading). unlessRefused y b (bufferAfter b bytes (readerOf l))) (sym e), t .1 .1)))
+
+  pub give-answers : 6 ≤ length l → 22 ≤ length o → {w : UsnJournalReader} → w ≡ readerOf l → {x : Reading} → x ≡ giveOf (length b) (length bytes) w
+      → {b′ : List ℕ} → b′ ≡ bufferAfter b bytes w → {l′ o′ : List ℕ} {r : ℕ} → Told (readingOutcome x) l l′ o o′ r → Given l b bytes o l′ b′ o′ r
+  give-answers h k e f g t =
+      let u = rw (f, e) at t in
+      rw (window-answers l o _ h k) (u .0, (u .1 .0, ((rw e at g) ∙ buffer-kept b bytes (readerOf l), u .1 .1)))
+
+-- the words that a call leaves are those of its window: the next call reads it back
+pub reader-again : (w : UsnJournalReader) (l : List ℕ) → readerOf (overwrite l (readerWords w)) ≡ w
+unfolding readerWords
+reader-again w l =
+    ap (λ (b : Bool). record { start = w .start; position = w .position; end = w .end; held = w .held; total = w .total; ended = b }) (flag (w .ended))
+  where
+    flag : (b : Bool) → not (eqb (cond b 1 0) 0) ≡ b
+    flag true = refl
+    flag false = refl
+
+-- giving never answers a record: its answer has three words, or none where it is refused
+pub give-words : (n k : ℕ) (w : UsnJournalReader) → length (readingWords (giveOf n k w)) ≤ 3
+unfolding giveOf answerWords
+give-words n k w = cases (eqb (giveRefusal n k w) 0) (eqb k 0) (eqb (wantedOf w) 0)
+  where
+    cases : (s t u : Bool)
+        → length (readingWords (cond s (cond t (cond u (asking w) (reading End (finished w))) (asking (fedBy w k))) (reading (Refused (giveRefusal n k w)) w))) ≤ 3
+    cases true true true = omega arith
+    cases true true false = omega arith
+    cases true false u = omega arith
+    cases false t u = omega arith

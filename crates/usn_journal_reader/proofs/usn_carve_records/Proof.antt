@@ -1,0 +1,35 @@
+-- Too few words are refused first; otherwise carving's equations say what goes out.
+use borrow.Author.Needs.{needs}
+use denote.Ref.{now}
+use Rattle.usn_journal_reader.proofs.AnswerLaws.{out-same, both-short, both-answered}
+use Rattle.usn_journal_reader.proofs.usn_carve_records.Statement.{statement}
+use Rattle.usn_journal_reader.proofs.usn_carve_records.Tie as tie
+
+returns : tie.Need-returns
+returns c = both-short _ _ _ _ _ (now (c .before .before .before .before .args .out)) (c .if1 .taken)
+
+carve-usn-records-requires : tie.Need-carve-usn-records-requires
+carve-usn-records-requires c κs = search needs
+
+put-stats-requires : tie.Need-put-stats-requires
+put-stats-requires c κs = search needs
+
+same-length : tie.Need-same-length
+same-length c = search needs
+
+same-length-2 : tie.Need-same-length-2
+same-length-2 c = search needs
+
+returns-2 : tie.Need-returns-2
+returns-2 c = both-answered _ _ _ _ _ (now (c .before .before .before .before .before .before .before .before .before .before .before .before .args .out)) (c .before .before .before .before .before .before .before .before .if1 .left) (c .before .before .before .before .before .before .carve-usn-records .ensures .1) (out-same (record { answer = c .before .before .put-stats .ensures .0; list = c .before .before .put-stats .ensures .1 }) (c .before .before .before .before .before .before .carve-usn-records .ensures .0))
+
+pub usn-carve-records-spec : {M : Type 1} → statement M
+usn-carve-records-spec =
+    tie.close
+    (tie.spec
+    returns
+    carve-usn-records-requires
+    put-stats-requires
+    same-length
+    same-length-2
+    returns-2)

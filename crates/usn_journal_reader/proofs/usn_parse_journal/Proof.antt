@@ -1,0 +1,36 @@
+-- Too few words are refused first; otherwise the scan's equations say what goes out.
+use borrow.Author.Needs.{needs}
+use denote.Ref.{now}
+use Rattle.usn_journal_reader.proofs.AnswerLaws.{both-short, both-answered}
+use Rattle.usn_journal_reader.proofs.JournalLaws.{journal-out}
+use Rattle.usn_journal_reader.proofs.usn_parse_journal.Statement.{statement}
+use Rattle.usn_journal_reader.proofs.usn_parse_journal.Tie as tie
+
+returns : tie.Need-returns
+returns c = both-short _ _ _ _ _ (now (c .before .before .before .before .args .out)) (c .if1 .taken)
+
+parse-usn-journal-requires : tie.Need-parse-usn-journal-requires
+parse-usn-journal-requires c κs = search needs
+
+put-count-requires : tie.Need-put-count-requires
+put-count-requires c κs = search needs
+
+same-length : tie.Need-same-length
+same-length c = search needs
+
+same-length-2 : tie.Need-same-length-2
+same-length-2 c = search needs
+
+returns-2 : tie.Need-returns-2
+returns-2 c = both-answered _ _ _ _ _ (now (c .before .before .before .before .before .before .before .before .before .before .before .before .args .out)) (c .before .before .before .before .before .before .before .before .if1 .left) (c .before .before .before .before .before .before .parse-usn-journal .ensures .1) (journal-out _ _ (c .before .before .before .before .before .before .parse-usn-journal .ensures .0) (record { answer = c .before .before .put-count .ensures .0; list = c .before .before .put-count .ensures .1 }))
+
+pub usn-parse-journal-spec : {M : Type 1} → statement M
+usn-parse-journal-spec =
+    tie.close
+    (tie.spec
+    returns
+    parse-usn-journal-requires
+    put-count-requires
+    same-length
+    same-length-2
+    returns-2)

@@ -1,0 +1,43 @@
+-- Lists that are too short are refused first; otherwise the window's equation says what goes out.
+use borrow.Author.Needs.{needs}
+use denote.Ref.{now}
+use Rattle.usn_journal_reader.proofs.WindowLaws.{told-refused, short-reader, short-out, next-answers}
+use Rattle.usn_journal_reader.proofs.usn_reader_next.Statement.{statement}
+use Rattle.usn_journal_reader.proofs.usn_reader_next.Tie as tie
+
+returns : tie.Need-returns
+returns c = told-refused (now (c .before .before .before .before .args .reader)) (now (c .before .before .before .before .args .out)) (short-reader _ _ _ (c .if1 .taken))
+
+returns-2 : tie.Need-returns-2
+returns-2 c = told-refused (now (c .before .before .before .before .before .args .reader)) (now (c .before .before .before .before .before .args .out)) (short-out _ _ _ (c .before .if1 .left) (c .if2 .taken))
+
+reader-of-requires : tie.Need-reader-of-requires
+reader-of-requires c κs = search needs
+
+next-requires : tie.Need-next-requires
+next-requires c κs = search needs
+
+put-reading-requires : tie.Need-put-reading-requires
+put-reading-requires c κs = search needs
+
+same-length : tie.Need-same-length
+same-length c = search needs
+
+same-length-2 : tie.Need-same-length-2
+same-length-2 c = search needs
+
+returns-3 : tie.Need-returns-3
+returns-3 c = next-answers (now (c .before .before .before .before .before .before .before .before .before .before .before .before .before .before .before .args .reader)) (now (c .before .before .before .before .before .before .before .before .before .before .before .before .before .before .before .args .buffer)) (now (c .before .before .before .before .before .before .before .before .before .before .before .before .before .before .before .args .out)) (c .before .before .before .before .before .before .before .before .before .before .before .if1 .left) (c .before .before .before .before .before .before .before .before .before .before .if2 .left) (c .before .before .before .before .before .before .before .before .reader-of .ensures) (c .before .before .before .before .before .before .before .next .ensures) (c .before .before .before .before .put-reading .ensures)
+
+pub usn-reader-next-spec : {M : Type 1} → statement M
+usn-reader-next-spec =
+    tie.close
+    (tie.spec
+    returns
+    returns-2
+    reader-of-requires
+    next-requires
+    put-reading-requires
+    same-length
+    same-length-2
+    returns-3)
