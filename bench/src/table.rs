@@ -64,8 +64,11 @@ impl Table {
     }
 
     pub fn print(&self) {
-        println!("Best of {REPETITIONS}. MB is 1000000 bytes. Our list, fields and buffer are cleared before the time begins, unless");
-        println!("the row says uncleared; the Rust takes its memory within the time. Names are places with ours, text with the Rust.");
+        println!("Best of {REPETITIONS}; MB is 1000000 bytes.");
+        println!(
+            "Our list, fields and buffer are cleared before the time begins, unless the row says uncleared; the Rust"
+        );
+        println!("takes its memory within the time. Names are places with ours and text with the Rust.");
         println!();
         println!("| {:<34} | ours MB/s | the Rust's MB/s | ratio |", "what");
         println!("|{:-<36}|----------:|----------------:|------:|", "");

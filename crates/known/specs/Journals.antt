@@ -10,8 +10,8 @@ use Rattle.usn_record.specs.Sample.{header, sampleFixed, recordE}
 use Rattle.usn_journal.specs.Scan.{visit, scanned}
 use Rattle.usn_journal.specs.Outcome.{scanAnswer}
 use Rattle.usn_carver.specs.Settings.{standard}
+use Rattle.usn_carver.specs.Events.{statsWords}
 use Rattle.usn_carver.specs.Carve.{recordsIn, statsIn, carving}
-use Rattle.usn_carver.specs.declared.CarvingStats.{CarvingStats}
 use Rattle.usn_reader.specs.Journal.{Step, over, onto, stepAt, windowList}
 use Rattle.known.specs.Case.{Case}
 
@@ -26,9 +26,6 @@ abbrev pub windows : List ℕ → List ℕ → Case
 windows s known = record { says = flatten placeWords (windowList s); known = known }
 
 -- the counters of carving: bytes, candidates, carved, rejected for their time, rejected for their structure
-abbrev pub statsWords : CarvingStats → List ℕ
-statsWords c = c .«bytes_scanned» ∷ c .«candidates_examined» ∷ c .«records_carved» ∷ c .«rejected_timestamp» ∷ c .«rejected_structure» ∷ []
-
 abbrev pub counts : List ℕ → List ℕ → Case
 counts s known = record { says = statsWords (statsIn standard s); known = known }
 

@@ -45,3 +45,7 @@ statsOf size es =
       «rejected_timestamp» = times es;
       «rejected_structure» = structures es;
     }
+
+-- the counters as words
+abbrev pub statsWords : CarvingStats → List ℕ
+statsWords c = c .«bytes_scanned» ∷ c .«candidates_examined» ∷ c .«records_carved» ∷ c .«rejected_timestamp» ∷ c .«rejected_structure» ∷ []

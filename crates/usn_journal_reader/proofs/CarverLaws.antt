@@ -8,7 +8,7 @@ use Rattle.usn_carver.specs.Carve.{outcome}
 use Rattle.usn_carver.specs.declared.Carving.{Carving}
 use Rattle.usn_carver.specs.declared.Carving.the-variants.{Carved}
 use Rattle.usn_carver.specs.declared.CarvingStats.{CarvingStats}
-use Rattle.usn_journal_reader.specs.Carver.{statsWords}
+use Rattle.usn_carver.specs.Events.{statsWords}
 use Rattle.usn_journal_reader.proofs.AnswerLaws.{Out, out-answered}
 
 pub stats-answered : (y : Carving) (l : List ℕ) {stats : CarvingStats} → y ≡ Carved stats → 5 ≤ length l → {row m : List ℕ} → row ≡ statsWords stats → m ≡ sets l 0 row

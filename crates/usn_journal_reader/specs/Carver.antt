@@ -1,6 +1,6 @@
 -- The carving of records as a C call.
 use Prim.Native.Nat.{ℕ}
-use mathlib.Core.List.{List, [], _∷_}
+use mathlib.Core.List.{List}
 use lib.ListN.{length}
 use Rattle.walk.specs.Lists.{flatten, placeWords}
 use Rattle.walk.specs.Outcome.{Outcome}
@@ -12,10 +12,6 @@ use Rattle.usn_journal_reader.specs.Answers.{withRoom}
 -- carving s, with lent lists for the records' places and for the counters
 abbrev pub carveCall : List ℕ → List ℕ → List ℕ → Outcome CarvingStats
 carveCall s list out = withRoom 5 (length out) (carving standard s (length list))
-
--- the counters as words
-abbrev pub statsWords : CarvingStats → List ℕ
-statsWords c = c .«bytes_scanned» ∷ c .«candidates_examined» ∷ c .«records_carved» ∷ c .«rejected_timestamp» ∷ c .«rejected_structure» ∷ []
 
 -- the words of the places of the records that are carved from s
 abbrev pub carvedWords : List ℕ → CarvingStats → List ℕ

@@ -5,7 +5,7 @@ ghost use lib.ListN.{length};
 ghost use Rattle.walk.specs.Lists.{listAfter};
 ghost use Rattle.usn_carver.specs.Carve.{outcome};
 ghost use Rattle.usn_journal_reader.specs.Answers.{number};
-ghost use Rattle.usn_journal_reader.specs.Carver.{statsWords};
+ghost use Rattle.usn_carver.specs.Events.{statsWords};
 use usn_carver::Carving;
 use usn_carver::CarvingStats;
 use walk::put_words;

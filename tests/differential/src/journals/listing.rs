@@ -83,7 +83,7 @@ impl Answer {
         }
         let listed = |at: usize| {
             let place = places.get(at / 2)?;
-            Some(if at % 2 == 0 { place.offset } else { place.length })
+            Some([place.offset, place.length][at % 2])
         };
         let expected = |at| listed(at).unwrap_or(untouched(at) as usize);
         if let Some(at) = (0..self.list.len()).find(|&at| self.list[at] != expected(at)) {
@@ -172,10 +172,8 @@ impl Walk {
                 ours: format!("document 01: {}", self.shown(lister.fields)),
             });
         }
-        let given = offsets.iter().zip(&rust.records);
-        given
-            .map(|(&offset, record)| compare_given(data, offset, record))
-            .collect()
+        let mut given = offsets.iter().zip(&rust.records);
+        given.try_for_each(|(&offset, record)| compare_given(data, offset, record))
     }
 }
 

@@ -38,8 +38,10 @@ const EXHAUSTIVE: [(&str, usize); 7] = [
 const LONGEST_JOURNAL: usize = 2000;
 const SHORTEST_RANDOM: usize = 400;
 
-/// The readers by their numbers in `stdin`.
-const READERS: [(u8, fn(&[u8]) -> Answer); 3] = [(1, scan), (2, carve), (3, window)];
+/// A reader by its number in `stdin`, and the Rust's answer.
+type Reader = (u8, fn(&[u8]) -> Answer);
+
+const READERS: [Reader; 3] = [(1, scan), (2, carve), (3, window)];
 
 /// The first line of an answer, and the records with what stands in front of each.
 struct Answer {

@@ -108,7 +108,7 @@ fn candidate(data: &[u8], place: Place) -> Option<Candidate> {
     let sound = name_offset == layout.fixed
         && name_offset + name_length <= place.length
         && name_length > 0
-        && name_length % 2 == 0;
+        && name_length.is_multiple_of(2);
     Some(match (sound, (FIRST_TIME..=LAST_TIME).contains(&time)) {
         (false, _) => Candidate::RejectedStructure,
         (true, false) => Candidate::RejectedTimestamp,

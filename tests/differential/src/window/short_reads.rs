@@ -3,8 +3,7 @@
 
 use super::calls::Pair;
 use super::reading::{records_of, Caller, Stream};
-use crate::difference::Finding;
-use crate::difference::{Case, Difference, Outcome};
+use crate::difference::{Case, Difference, Finding, Outcome};
 use crate::records::edges::example;
 use crate::records::layout::{Fields, V2};
 use std::io::{self, Read, Seek, SeekFrom};
@@ -62,8 +61,8 @@ pub fn run() -> Outcome {
     check(&record, &[], 1, 1)?;
     nothing_smaller(&record)?;
     println!(
-        "{SUBJECT}: a version 2 record of {length} bytes in two reads, cut at any of its {} places: the Rust gives no \
-         record, ours gives it, as full reads do",
+        "{SUBJECT}: the {length} bytes of a version 2 record without a name in reads of {0} and 1, or cut at any other of \
+         their {0} places: the Rust gives no record, ours gives it, as full reads do",
         length - 1
     );
     invented(&record)?;
@@ -95,7 +94,7 @@ fn invented(record: &[u8]) -> Outcome {
     check(&bytes, &[], 0, 0)?;
     check(&bytes, &[1], 0, 1)?;
     println!(
-        "{SUBJECT}: a byte and that record in reads of 1 and {} bytes: the Rust gives a record, ours none, as full reads do",
+        "{SUBJECT}: a zero byte and that record in reads of 1 and {}: the Rust gives a record, ours none, as full reads do",
         record.len()
     );
     Ok(())
@@ -113,7 +112,8 @@ fn compare(bytes: &[u8], mut sizes: &[usize], full: usize, short: usize) -> Resu
         position: 0,
         sizes,
     };
-    let counts = [records_of(source).len(), Stream::of(bytes)?.records.len()];
+    let stream = Stream::of(bytes)?;
+    let counts = [records_of(source).len(), stream.records.len()];
     if counts != [short, full] {
         return Err(Finding {
             call: format!("UsnJournalReader, reads of {sizes:?} bytes and the rest"),
@@ -123,7 +123,7 @@ fn compare(bytes: &[u8], mut sizes: &[usize], full: usize, short: usize) -> Resu
         });
     }
     // The reading holds our window's records to those of the full reads.
-    Stream::of(bytes)?.read(&mut Pair::new(), &mut sizes)
+    stream.read(&mut Pair::new(), &mut sizes)
 }
 
 fn differs(bytes: &[u8], finding: Finding) -> Difference {

@@ -184,7 +184,7 @@ impl Restless<'_> {
             0 => wrong[0] = numbers[0] + self.random.between(1, 7) as u64,
             1 => wrong[1] = numbers[1] + self.random.between(1, 7) as u64,
             2 => wrong[1] = numbers[2].next_multiple_of(8) + 8,
-            3 => wrong[2] = numbers[2] + self.random.between(1, 8) as u64,
+            3 => wrong[2] = numbers[4] + self.random.between(1, 8) as u64,
             4 => wrong[3] = numbers[2] - numbers[0] + 1,
             _ => wrong[4] = STREAM_DOMAIN + 1,
         }
