@@ -1,8 +1,8 @@
-//! Times our readers beside those of the Rust library that they replace, on one journal and for the same result. README.md
-//! says how to run it.
+//! Times our readers beside those of the Rust library that they replace, on one journal and for the same result.
+//! README.md says how to run it.
 //!
-//! The original's files, the stand-ins for what they lack and the declarations of our library are those of the differential
-//! test.
+//! The original's files, the stand-ins for what they lack and the declarations of our library are those of the
+//! differential test.
 
 mod journal;
 mod ours;

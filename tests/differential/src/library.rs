@@ -1,7 +1,7 @@
 //! The calls of our library, `libusn_journal_reader.a`. Nothing checks these declarations against its source.
 //!
-//! Each call answers 0 and writes the words of its answer, or answers a refusal number and writes nothing. Slices pass as
-//! a pointer and a length. The calls ask nothing of their arguments, so the wrappers are safe for any slices.
+//! Each call answers 0 and writes the words of its answer, or answers a refusal number and writes nothing. Slices pass
+//! as a pointer and a length. The calls ask nothing of their arguments, so the wrappers are safe for any slices.
 
 /// The words of a record, in this order. Signed fields are given by their 64 bits.
 pub const FIELDS: [&str; 19] = [
@@ -50,8 +50,8 @@ pub const READER_FIELDS: [&str; 6] = ["start", "position", "end", "held", "total
 /// How many words a window has.
 pub const READER_WORDS: usize = READER_FIELDS.len();
 
-/// The first word of a window's answer: the end, the bytes that are wanted, or a record. Two words follow: from where and
-/// how many are wanted, or the record's offset in the stream and its length; the end has 0, 0.
+/// The first word of a window's answer: the end, the bytes that are wanted, or a record. Two words follow: from where
+/// and how many are wanted, or the record's offset in the stream and its length; the end has 0, 0.
 pub const END: u64 = 0;
 pub const WANTS: u64 = 1;
 pub const RECORD: u64 = 2;

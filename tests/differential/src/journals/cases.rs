@@ -126,8 +126,8 @@ fn gap(random: &mut Random, bytes: &mut Vec<u8>) {
     bytes.resize(bytes.len() + 8 * words, 0);
 }
 
-/// Appends a header of any version and of a length at which a reader decides, in front of zeros, rubbish or the next piece.
-/// A length that passes the journal's end ends the scan, so that a large one is rare.
+/// Appends a header of any version and of a length at which a reader decides, in front of zeros, rubbish or the next
+/// piece. A length that passes the journal's end ends the scan, so that a large one is rare.
 fn other_header(random: &mut Random, bytes: &mut Vec<u8>) {
     let length = match random.below(16) {
         0 => random.pick(&LENGTHS),

@@ -1,5 +1,5 @@
-//! The exhaustive journals: groups of numbers at which a reader decides, all combinations within a group. Record E stands
-//! where a reader comes to if it moves by one rule or by another, so that the records show its way.
+//! The exhaustive journals: groups of numbers at which a reader decides, all combinations within a group. Record E
+//! stands where a reader comes to if it moves by one rule or by another, so that the records show its way.
 
 use super::walks::{FIRST_TIME, LAST_TIME};
 use crate::records::edges::example;
@@ -44,8 +44,8 @@ pub fn laid(under: &[u8], over: &[u8], at: usize) -> Vec<u8> {
     bytes
 }
 
-/// Every kind of version with the lengths at which a reader decides, E at each of the first words, and the journal ending
-/// around the record's end and behind E.
+/// Every kind of version with the lengths at which a reader decides, E at each of the first words, and the journal
+/// ending around the record's end and behind E.
 fn lengths(layout: &Layout, inputs: &mut Vec<Input>) {
     const LENGTHS: [usize; 18] = [0, 7, 8, 9, 48, 55, 56, 57, 59, 60, 61, 63, 64, 65, 75, 76, 77, 80];
     for version in [0, 1, 2, 3, 4, 5, 0x0302, 0xffff] {
@@ -85,7 +85,8 @@ fn large_lengths(inputs: &mut Vec<Input>) {
     }
 }
 
-/// The names at which the carver decides: offset, length and record's end, with a time that is carved and one that is not.
+/// The names at which the carver decides: offset, length and record's end, with a time that is carved and one that is
+/// not.
 fn names(layout: &Layout, inputs: &mut Vec<Input>) {
     let fixed = layout.fixed;
     for name_offset in [0, 59, 60, 61, 75, 76, 77, 65535] {

@@ -76,7 +76,8 @@ impl Answer {
         Self { number, list, out }
     }
 
-    /// The first thing in which the answer is not `number` with these places and words in front, and nothing else written.
+    /// The first thing in which the answer is not `number` with these places and words in front, and nothing else
+    /// written.
     fn against(&self, number: u32, places: &[Place], words: &[u64]) -> Option<String> {
         if self.number != number {
             return Some(format!("the answer is {}, not {number}", self.number));
@@ -185,8 +186,8 @@ fn compare(lister: &Lister, data: &[u8], lent: impl FnOnce(usize) -> Vec<Lent>) 
     Ok(walk)
 }
 
-/// The lists lent where every one is tried: just enough, one and two words more, one and two too few, none, and so many that
-/// no extract of this length could fill them; and answers of too few words and of more than enough.
+/// The lists lent where every one is tried: just enough, one and two words more, one and two too few, none, and so many
+/// that no extract of this length could fill them; and answers of too few words and of more than enough.
 fn every_lent(lister: &Lister, length: usize, records: usize) -> Vec<Lent> {
     let (words, full) = (lister.fields.len(), 2 * records);
     let fewer = [1, 2, full].map(|less| full.saturating_sub(less));
@@ -280,8 +281,8 @@ fn compare_known(lister: &Lister, known: &Known) -> Result<(), Finding> {
     })
 }
 
-/// Records at both ends of the largest extract, and one byte more, which is refused. `number` is the first case's; gives
-/// how many cases there are.
+/// Records at both ends of the largest extract, and one byte more, which is refused. `number` is the first case's;
+/// gives how many cases there are.
 fn largest(lister: &Lister, number: u64) -> Result<u64, Difference> {
     // The pages of this extract are not in memory before they are written, and only those of the records are.
     let mut extract = vec![0; DOMAIN + 1];

@@ -1,9 +1,9 @@
-//! The recorded sample of the readers: journals and the Rust's answers to them, for a test that has no Rust. It is the same
-//! byte for byte in every run.
+//! The recorded sample of the readers: journals and the Rust's answers to them, for a test that has no Rust. It is the
+//! same byte for byte in every run.
 //!
 //! `stdin` is the cases one after another: a byte, the reader (1 the scan, 2 the carver, 3 the window), four bytes, the
-//! journal's length, little endian, and the journal. `stdout` has the answers: a line with the number of records, for the
-//! carver with its counters, and a line for each record, for the carver with its offset in front.
+//! journal's length, little endian, and the journal. `stdout` has the answers: a line with the number of records, for
+//! the carver with its counters, and a line for each record, for the carver with its offset in front.
 
 use super::{cases, edges, known};
 use crate::random::Random;
@@ -23,7 +23,8 @@ const CASES: u64 = 2;
 /// How many journals are recorded, each for every reader.
 const JOURNALS: usize = 40;
 
-/// How many exhaustive journals of each kind are taken, beside all that document 01 names; random ones make up the rest.
+/// How many exhaustive journals of each kind are taken, beside all that document 01 names; random ones make up the
+/// rest.
 const EXHAUSTIVE: [(&str, usize); 7] = [
     ("length and version", 3),
     ("name place", 2),
@@ -98,8 +99,8 @@ fn random(sample: &mut Sample) {
 }
 
 impl Sample {
-    /// Adds a journal with every reader's answer. A long journal is left out, and so is one of which a reader gives a name
-    /// with U+FFFD, whose text does not tell the units.
+    /// Adds a journal with every reader's answer. A long journal is left out, and so is one of which a reader gives a
+    /// name with U+FFFD, whose text does not tell the units.
     fn add(&mut self, bytes: &[u8]) {
         let answers = READERS.map(|(number, read)| (number, read(bytes)));
         let mut records = answers.iter().flat_map(|(_, answer)| &answer.records);

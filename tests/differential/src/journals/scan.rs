@@ -1,5 +1,5 @@
-//! The subject `journal`: `parse_usn_journal`. The Rust tells no offsets; they are those of document 01's walk, at each of
-//! which its parser must find the record again.
+//! The subject `journal`: `parse_usn_journal`. The Rust tells no offsets; they are those of document 01's walk, at each
+//! of which its parser must find the record again.
 
 use super::known::Known;
 use super::listing::{Given, Lister, Named, Walk};

@@ -18,7 +18,8 @@ const SMALLEST: usize = 56;
 pub const FIRST_TIME: i64 = 125_911_584_000_000_000;
 pub const LAST_TIME: i64 = 135_379_776_000_000_000;
 
-/// The length field at `offset`. A zero word has length 0, which no reader takes, so that all of them pass zero words by 8.
+/// The length field at `offset`. A zero word has length 0, which no reader takes, so that all of them pass zero words
+/// by 8.
 pub fn length_at(data: &[u8], offset: usize) -> usize {
     let field = data[offset..].first_chunk().expect("the field lies inside");
     u32::from_le_bytes(*field) as usize

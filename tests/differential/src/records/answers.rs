@@ -153,8 +153,8 @@ pub fn compare_listed(data: &[u8], offset: usize, lent: usize) -> Result<(), Fin
     })
 }
 
-/// Holds a record that a reader of the Rust gave to its place in an extract: the Rust's parser finds the same record there,
-/// and so does our call for the record at that offset.
+/// Holds a record that a reader of the Rust gave to its place in an extract: the Rust's parser finds the same record
+/// there, and so does our call for the record at that offset.
 pub fn compare_given(data: &[u8], offset: usize, given: &UsnRecord) -> Result<(), Finding> {
     let ours = Answer::of(WORDS, |words| library::usn_listed_record(data, offset, words));
     let what = match listed_by_rust(data, offset) {

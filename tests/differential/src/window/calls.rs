@@ -1,5 +1,5 @@
-//! Our window and document 01's side by side: every call is made on both, and all that it answers, changes and leaves alone
-//! is compared.
+//! Our window and document 01's side by side: every call is made on both, and all that it answers, changes and leaves
+//! alone is compared.
 
 use super::model::{Answer, Model};
 use crate::difference::Finding;
@@ -167,8 +167,8 @@ impl Pair {
         Some(format!("the window's {name} is {ours}, not {}", expected(at)))
     }
 
-    /// The first word of our answer that is not as expected. A record is what the Rust's parser finds at its place in the
-    /// buffer.
+    /// The first word of our answer that is not as expected. A record is what the Rust's parser finds at its place in
+    /// the buffer.
     fn against_out(&self, answered: &Answered) -> Option<String> {
         let first = answered.map(|answer| answer.words()).unwrap_or([UNTOUCHED; 3]);
         if let Some(at) = (0..3).find(|&at| self.out[at] != first[at]) {
@@ -190,7 +190,8 @@ impl Pair {
         Some(format!("word {at} is written"))
     }
 
-    /// The first thing in which our answer is not this record, which was read from `part` and lies in the buffer at `at`.
+    /// The first thing in which our answer is not this record, which was read from `part` and lies in the buffer at
+    /// `at`.
     fn against_record(&self, record: &UsnRecord, layout: &Layout, part: &[u8], at: usize) -> Option<String> {
         let mut expected = words_of(record, layout, part);
         if expected[NAME + 1] > 0 {
@@ -200,7 +201,8 @@ impl Pair {
         against_text(words, &record.filename, &self.buffer).or_else(|| against_words(words, &expected))
     }
 
-    /// Holds our answer to the record that the Rust's reader gave, which was read from `part` at `offset` of the stream.
+    /// Holds our answer to the record that the Rust's reader gave, which was read from `part` at `offset` of the
+    /// stream.
     pub fn compare_record(
         &self,
         record: &UsnRecord,

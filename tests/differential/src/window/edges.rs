@@ -1,5 +1,5 @@
-//! The exhaustive journals of the window beside those of all readers: what lies across the place where it is refilled first,
-//! and where the journal ends.
+//! The exhaustive journals of the window beside those of all readers: what lies across the place where it is refilled
+//! first, and where the journal ends.
 
 use crate::journals::edges::{header, laid, Input};
 use crate::library::BUF_SIZE;
@@ -30,8 +30,8 @@ fn filled(record: &[u8], length: usize) -> Vec<u8> {
     bytes
 }
 
-/// What lies across the edge: records of both versions and of others, short ones, and headers whose length reaches around
-/// the next window's end.
+/// What lies across the edge: records of both versions and of others, short ones, and headers whose length reaches
+/// around the next window's end.
 fn pieces() -> Vec<Vec<u8>> {
     let mut range = example(&V3);
     put(&mut range, MAJOR_VERSION, 2, 4);
@@ -47,8 +47,8 @@ fn pieces() -> Vec<Vec<u8>> {
     pieces
 }
 
-/// The piece behind what comes before it, and E behind it; the journal ends around the edge, behind E, or so far away that
-/// the largest record lies inside.
+/// The piece behind what comes before it, and E behind it; the journal ends around the edge, behind E, or so far away
+/// that the largest record lies inside.
 fn ends(before: &[u8], piece: &[u8], inputs: &mut Vec<Input>) {
     let mut bytes = [before, piece].concat();
     bytes.resize(bytes.len().next_multiple_of(8), 0);
@@ -80,7 +80,8 @@ fn cuts(inputs: &mut Vec<Input>) {
     }
 }
 
-/// Zeros over one to three windows that end around a window's end, alone and with E before the end, across it or behind it.
+/// Zeros over one to three windows that end around a window's end, alone and with E before the end, across it or behind
+/// it.
 fn totals(inputs: &mut Vec<Input>) {
     for edge in [1, 2, 3].map(|windows| windows * BUF_SIZE) {
         for total in edge - 9..=edge + 17 {

@@ -1,5 +1,5 @@
-//! The window: `usn/reader.rs` of the original against the library's calls. The Rust's reader has full reads; our window is
-//! delivered the same bytes in pieces of any size.
+//! The window: `usn/reader.rs` of the original against the library's calls. The Rust's reader has full reads; our
+//! window is delivered the same bytes in pieces of any size.
 
 mod calls;
 mod edges;

@@ -1,5 +1,5 @@
-//! Calls on windows of any numbers, lent any lengths: which are refused and by which number, that a refused call changes
-//! nothing, and what the others answer.
+//! Calls on windows of any numbers, lent any lengths: which are refused and by which number, that a refused call
+//! changes nothing, and what the others answer.
 
 use super::calls::{Lent, Pair, BEHIND, FULL};
 use crate::difference::Finding;

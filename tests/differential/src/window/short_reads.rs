@@ -1,5 +1,5 @@
-//! Short reads: the Rust's reader loses records where a source delivers fewer bytes than asked, and gives records that are
-//! not there. Ours gives what full reads give. Both are held to that on the smallest journals which show it.
+//! Short reads: the Rust's reader loses records where a source delivers fewer bytes than asked, and gives records that
+//! are not there. Ours gives what full reads give. Both are held to that on the smallest journals which show it.
 
 use super::calls::Pair;
 use super::reading::{records_of, Caller, Stream};
@@ -61,8 +61,8 @@ pub fn run() -> Outcome {
     check(&record, &[], 1, 1)?;
     nothing_smaller(&record)?;
     println!(
-        "{SUBJECT}: the {length} bytes of a version 2 record without a name in reads of {0} and 1, or cut at any other of \
-         their {0} places: the Rust gives no record, ours gives it, as full reads do",
+        "{SUBJECT}: the {length} bytes of a version 2 record without a name in reads of {0} and 1, or cut at any other \
+         of their {0} places: the Rust gives no record, ours gives it, as full reads do",
         length - 1
     );
     invented(&record)?;
@@ -87,21 +87,22 @@ fn nothing_smaller(record: &[u8]) -> Outcome {
     Ok(())
 }
 
-/// One byte before the record: read by itself, it is forgotten, and the Rust reads the record from there, which lies at no
-/// multiple of 8.
+/// One byte before the record: read by itself, it is forgotten, and the Rust reads the record from there, which lies at
+/// no multiple of 8.
 fn invented(record: &[u8]) -> Outcome {
     let bytes = [&[0], record].concat();
     check(&bytes, &[], 0, 0)?;
     check(&bytes, &[1], 0, 1)?;
     println!(
-        "{SUBJECT}: a zero byte and that record in reads of 1 and {}: the Rust gives a record, ours none, as full reads do",
+        "{SUBJECT}: a zero byte and that record in reads of 1 and {}: the Rust gives a record, ours none, as full \
+         reads do",
         record.len()
     );
     Ok(())
 }
 
-/// Holds full reads and our window to `full` records, the latter delivered in these sizes, and the Rust over a source of
-/// these sizes to `short` records.
+/// Holds full reads and our window to `full` records, the latter delivered in these sizes, and the Rust over a source
+/// of these sizes to `short` records.
 fn check(bytes: &[u8], sizes: &[usize], full: usize, short: usize) -> Outcome {
     compare(bytes, sizes, full, short).map_err(|finding| differs(bytes, finding))
 }

@@ -55,8 +55,8 @@ fn filler(random: &mut Random, bytes: &mut Vec<u8>, edge: usize) {
     bytes.resize(end.max(bytes.len()).next_multiple_of(8), 0);
 }
 
-/// Appends pieces across an edge of the window; gives the next edge, which is that of a window that begins with the piece
-/// that passes this one.
+/// Appends pieces across an edge of the window; gives the next edge, which is that of a window that begins with the
+/// piece that passes this one.
 fn across(random: &mut Random, bytes: &mut Vec<u8>, edge: usize) -> usize {
     loop {
         let start = bytes.len();
@@ -154,8 +154,8 @@ impl Caller for Restless<'_> {
 }
 
 impl Restless<'_> {
-    /// A call that is refused, or that changes nothing: too many bytes, no bytes where none are wanted, what is wanted asked
-    /// again, other lengths than are asked for, and numbers that are no window's.
+    /// A call that is refused, or that changes nothing: too many bytes, no bytes where none are wanted, what is wanted
+    /// asked again, other lengths than are asked for, and numbers that are no window's.
     fn other_call(&mut self, pair: &mut Pair) -> Result<(), Finding> {
         let wanted = pair.wanted();
         let lent = match self.random.below(5) {
