@@ -125,7 +125,9 @@ Given l b bytes o l′ b′ o′ r =
 
 module _ (l b bytes o : List ℕ) where
   pub give-refused : giveCall l b bytes o ≡ refused listFull → Given l b bytes o l b o 5
-  give-refused e = let t = told-refused l o e in (t .0, (t .1 .0, (rw e, t .1 .1)))
+  give-refused e =
+      let t = told-refused l o e in
+      (t .0, (t .1 .0, (ap (λ (y : Outcome Reading). unlessRefused y b (bufferAfter b bytes (readerOf l))) (sym e), t .1 .1)))
 
   pub give-answers : 6 ≤ length l → 22 ≤ length o → {w : UsnJournalReader} → w ≡ readerOf l → {x : Reading} → x ≡ giveOf (length b) (length bytes) w
       → {b′ : List ℕ} → b′ ≡ bufferAfter b bytes w → {l′ o′ : List ℕ} {r : ℕ} → Told (readingOutcome x) l l′ o o′ r → Given l b bytes o l′ b′ o′ r
