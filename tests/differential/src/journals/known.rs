@@ -1,4 +1,4 @@
-//! The journals that document 01 knows by name, with what it says of each reader.
+//! The journals that the scope knows by name, with what it says of each reader.
 
 use crate::journals::edges::{header, laid};
 use crate::journals::walks::{FIRST_TIME, LAST_TIME};

@@ -1,4 +1,4 @@
-//! A call that lists the records of an extract, held against the Rust and against document 01: the number answered, the
+//! A call that lists the records of an extract, held against the Rust and against the scope: the number answered, the
 //! words of the list and of the answer, and those left alone.
 
 use super::known::Known;
@@ -12,7 +12,7 @@ use crate::records::edges::example;
 use crate::records::layout::{V2, V3};
 use crate::usn::UsnRecord;
 
-/// A reader that lists records: the Rust's, ours, and document 01's walk.
+/// A reader that lists records: the Rust's, ours, and the scope's walk.
 pub struct Lister {
     pub subject: &'static str,
     /// Keeps this subject's random numbers apart from the others'.
@@ -23,7 +23,7 @@ pub struct Lister {
     pub rust: fn(&[u8]) -> Given,
     pub ours: fn(&[u8], &mut [usize], &mut [u64]) -> u32,
     pub document: fn(&[u8]) -> Walk,
-    /// What document 01 says of a journal that it names.
+    /// What the scope says of a journal that it names.
     pub known: fn(&Known) -> Named,
 }
 
@@ -34,13 +34,13 @@ pub struct Given {
     pub words: Vec<u64>,
 }
 
-/// What document 01's walk finds: the records' places, and the words beside the list.
+/// What the scope's walk finds: the records' places, and the words beside the list.
 pub struct Walk {
     pub places: Vec<Place>,
     pub words: Vec<u64>,
 }
 
-/// What document 01 says of a journal by its name: the records' offsets, and the words beside the list.
+/// What the scope says of a journal by its name: the records' offsets, and the words beside the list.
 pub struct Named {
     pub offsets: Vec<usize>,
     pub words: Vec<u64>,
@@ -112,7 +112,7 @@ fn beginning<T>(list: &[T]) -> &[T] {
     &list[..list.len().min(40)]
 }
 
-/// Document 01's answer to an extract with so many records, its tests in their order.
+/// The scope's answer to an extract with so many records, its tests in their order.
 fn number(lister: &Lister, data: &[u8], records: usize, lent: Lent) -> u32 {
     if lent.out < lister.fields.len() {
         NO_ROOM
@@ -157,11 +157,11 @@ impl Walk {
     fn compare_rust(&self, lister: &Lister, data: &[u8], rust: &Given) -> Result<(), Finding> {
         let offsets: Vec<usize> = self.places.iter().map(|place| place.offset).collect();
         let what = if rust.words != self.words {
-            Some("document 01 counts otherwise than the Rust")
+            Some("the scope counts otherwise than the Rust")
         } else if rust.records.len() != offsets.len() {
-            Some("document 01 finds another number of records than the Rust")
+            Some("the scope finds another number of records than the Rust")
         } else if rust.offsets.as_ref().is_some_and(|given| *given != offsets) {
-            Some("document 01 finds other offsets than the Rust")
+            Some("the scope finds other offsets than the Rust")
         } else {
             None
         };
@@ -170,7 +170,7 @@ impl Walk {
                 call: format!("{}, not called yet", lister.call),
                 what: what.to_string(),
                 rust: format!("{}, offsets {:?}", named(lister.fields, &rust.words), rust.offsets),
-                ours: format!("document 01: {}", self.shown(lister.fields)),
+                ours: format!("the scope: {}", self.shown(lister.fields)),
             });
         }
         let mut given = offsets.iter().zip(&rust.records);
@@ -178,7 +178,7 @@ impl Walk {
     }
 }
 
-/// The Rust, document 01 and our reader on one extract, which is lent what `lent` says for its number of records.
+/// The Rust, the scope and our reader on one extract, which is lent what `lent` says for its number of records.
 fn compare(lister: &Lister, data: &[u8], lent: impl FnOnce(usize) -> Vec<Lent>) -> Result<Walk, Finding> {
     let walk = (lister.document)(data);
     walk.compare_rust(lister, data, &(lister.rust)(data))?;
@@ -234,7 +234,7 @@ pub fn random_case(
     Ok(())
 }
 
-/// The journals that document 01 names, the exhaustive ones, and those at the domain's end; how many they are.
+/// The journals that the scope names, the exhaustive ones, and those at the domain's end; how many they are.
 pub fn exhaustive(lister: &Lister) -> Result<u64, Difference> {
     let mut number = 0;
     for known in known::cases() {
@@ -261,7 +261,7 @@ fn exhaustive_case<'a>(lister: &Lister, number: u64, kind: &'static str, bytes: 
     }
 }
 
-/// A journal that document 01 names, with the answer that it gives.
+/// A journal that the scope names, with the answer that it gives.
 fn compare_known(lister: &Lister, known: &Known) -> Result<(), Finding> {
     let lent = |records| every_lent(lister, known.bytes.len(), records);
     let walk = compare(lister, &known.bytes, lent)?;
@@ -273,7 +273,7 @@ fn compare_known(lister: &Lister, known: &Known) -> Result<(), Finding> {
     Err(Finding {
         call: lister.call.to_string(),
         what: format!(
-            "document 01 names the offsets {:?} and the words {:?}",
+            "the scope names the offsets {:?} and the words {:?}",
             named.offsets, named.words
         ),
         rust: walk.shown(lister.fields),

@@ -23,7 +23,7 @@ const CASES: u64 = 2;
 /// How many journals are recorded, each for every reader.
 const JOURNALS: usize = 40;
 
-/// How many exhaustive journals of each kind are taken, beside all that document 01 names; random ones make up the
+/// How many exhaustive journals of each kind are taken, beside all that the scope names; random ones make up the
 /// rest.
 const EXHAUSTIVE: [(&str, usize); 7] = [
     ("length and version", 3),

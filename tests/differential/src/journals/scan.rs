@@ -1,4 +1,4 @@
-//! The subject `journal`: `parse_usn_journal`. The Rust tells no offsets; they are those of document 01's walk, at each
+//! The subject `journal`: `parse_usn_journal`. The Rust tells no offsets; they are those of the scope's walk, at each
 //! of which its parser must find the record again.
 
 use super::known::Known;

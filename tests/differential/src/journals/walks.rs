@@ -1,4 +1,4 @@
-//! Document 01's walks over a journal: the records that each reader gives, and the carver's counters. They are written
+//! The scope's walks over a journal: the records that each reader gives, and the carver's counters. They are written
 //! from the document, apart from the original and from our library, so that a mistake in one is not repeated here.
 
 use crate::library::BUF_SIZE;

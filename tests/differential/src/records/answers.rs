@@ -1,4 +1,4 @@
-//! One call held against the Rust and against document 01: the number answered, the words written and those left alone.
+//! One call held against the Rust and against the scope: the number answered, the words written and those left alone.
 
 use super::layout::{number, Layout, FILE_REFERENCE, LARGEST, MAJOR_VERSION, MINOR_VERSION, V2, V3};
 use crate::difference::Finding;
@@ -129,8 +129,8 @@ pub fn compare_parser(parser: &Parser, data: &[u8], lent: usize) -> Result<(), F
         (ABOVE_DOMAIN, _) => ours.against_refusal(ABOVE_DOMAIN),
         (ACCEPTED, Ok(_)) if lent < WORDS => ours.against_refusal(NO_ROOM),
         (ACCEPTED, Ok(record)) => ours.against_record(record, parser.layout, data),
-        (ACCEPTED, Err(_)) => Some("document 01 accepts what the Rust refuses".to_string()),
-        (expected, Ok(_)) => Some(format!("document 01 refuses with {expected} what the Rust accepts")),
+        (ACCEPTED, Err(_)) => Some("the scope accepts what the Rust refuses".to_string()),
+        (expected, Ok(_)) => Some(format!("the scope refuses with {expected} what the Rust accepts")),
         (expected, Err(_)) => ours.against_refusal(expected),
     };
     finding(what, rust.as_ref(), &ours, || {
@@ -190,7 +190,7 @@ fn finding<E: std::fmt::Display>(
     })
 }
 
-/// Document 01's answer to a parser's slice, its tests in their order, before any room for words is asked for.
+/// The scope's answer to a parser's slice, its tests in their order, before any room for words is asked for.
 fn refusal(layout: &Layout, data: &[u8]) -> u32 {
     if data.len() > DOMAIN {
         return ABOVE_DOMAIN;
@@ -256,7 +256,7 @@ pub fn words_of(record: &UsnRecord, layout: &Layout, part: &[u8]) -> [u64; WORDS
     ]
 }
 
-/// The name's place by document 01: empty if its length is below 2 or it ends past the slice, and of an even length.
+/// The name's place by the scope: empty if its length is below 2 or it ends past the slice, and of an even length.
 fn name_place(layout: &Layout, part: &[u8]) -> (u64, u64) {
     let length = number(part, layout.name_length, 2);
     let offset = number(part, layout.name_offset, 2);

@@ -57,7 +57,7 @@ pub fn inputs() -> Vec<Input> {
     inputs
 }
 
-/// The example record of document 01, with `ab` as its name.
+/// The example record of the scope, with `ab` as its name.
 pub fn example(layout: &Layout) -> Vec<u8> {
     let mut bytes = Vec::new();
     Fields::example(layout, 2).append(layout, &mut bytes);

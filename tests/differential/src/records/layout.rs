@@ -1,4 +1,4 @@
-//! Where the fields of a record lie, by document 01's table, and a writer of fixed parts. It is written apart from the
+//! Where the fields of a record lie, by the scope's table, and a writer of fixed parts. It is written apart from the
 //! original and from our library, so that a mistake in one is not repeated here.
 
 /// The offsets at which the two versions differ. The record length is at 0, the versions at 4 and 6, the file
@@ -82,7 +82,7 @@ pub struct Fields {
 }
 
 impl Fields {
-    /// Document 01's record E with a name of `units` UTF-16 units right behind the fixed part; for version 3 with the
+    /// The scope's record E with a name of `units` UTF-16 units right behind the fixed part; for version 3 with the
     /// upper halves of its references set.
     pub fn example(layout: &Layout, units: usize) -> Self {
         Self {

@@ -1,4 +1,4 @@
-//! Our window and document 01's side by side: every call is made on both, and all that it answers, changes and leaves
+//! Our window and the scope's side by side: every call is made on both, and all that it answers, changes and leaves
 //! alone is compared.
 
 use super::model::{Answer, Model};
@@ -31,7 +31,7 @@ pub const BEHIND: usize = 8;
 /// What a word holds before a call that may write it.
 const UNTOUCHED: u64 = 0xa55a_c33c_9669_f00f;
 
-/// Document 01's answer, or its refusal.
+/// The scope's answer, or its refusal.
 pub type Answered = Result<Answer, u32>;
 
 /// Both windows, with the buffer that ours is lent and what must stand in it.
@@ -85,7 +85,7 @@ impl Pair {
         *self.reader.first_chunk().expect("a window has these words")
     }
 
-    /// The bytes that document 01's window wants.
+    /// The bytes that the scope's window wants.
     pub fn wanted(&self) -> usize {
         self.model.wanted() as usize
     }
@@ -148,14 +148,14 @@ impl Pair {
         }
     }
 
-    /// The first thing in which our call is not as document 01 answers.
+    /// The first thing in which our call is not as the scope answers.
     fn against(&self, number: u32, answered: &Answered, before: [u64; READER_WORDS]) -> Option<String> {
         against_number(number, answered)
             .or_else(|| self.against_reader(answered, before))
             .or_else(|| self.against_out(answered))
     }
 
-    /// The first of our window's words that is not as document 01's window, or not as before where the call is refused.
+    /// The first of our window's words that is not as the scope's window, or not as before where the call is refused.
     fn against_reader<T>(&self, answered: &Result<T, u32>, before: [u64; READER_WORDS]) -> Option<String> {
         let numbers = match answered {
             Ok(_) => self.model.words(),
@@ -238,7 +238,7 @@ impl Pair {
         Err(Finding {
             call: call(),
             what,
-            rust: format!("no such call; document 01: {answered:?}, window {window}"),
+            rust: format!("no such call; the scope: {answered:?}, window {window}"),
             ours: self.shown(),
         })
     }

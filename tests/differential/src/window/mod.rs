@@ -76,7 +76,7 @@ fn random_case(pair: &mut Pair, bytes: &[u8], random: &mut Random) -> Result<(),
     Ok(())
 }
 
-/// The journals that document 01 names, the exhaustive ones of all readers and those of the window, and windows of any
+/// The journals that the scope names, the exhaustive ones of all readers and those of the window, and windows of any
 /// numbers; how many they are.
 fn exhaustive(pair: &mut Pair) -> Result<u64, Difference> {
     let mut number = 0;
@@ -111,7 +111,7 @@ fn exhaustive(pair: &mut Pair) -> Result<u64, Difference> {
 }
 
 /// A journal, delivered whole and by a few bytes, by a single one where it is short; its records lie at these offsets,
-/// where document 01 names them.
+/// where the scope names them.
 fn exhaustive_case(pair: &mut Pair, bytes: &[u8], offsets: Option<&[usize]>) -> Result<(), Finding> {
     let stream = Stream::of(bytes)?;
     let few = if bytes.len() < 1000 { 1 } else { 61 };
@@ -122,7 +122,7 @@ fn exhaustive_case(pair: &mut Pair, bytes: &[u8], offsets: Option<&[usize]>) -> 
     match offsets {
         Some(offsets) if found != offsets => Err(Finding {
             call: "all of usn_reader_next".to_string(),
-            what: format!("document 01 names the offsets {offsets:?}"),
+            what: format!("the scope names the offsets {offsets:?}"),
             rust: format!("{found:?}"),
             ours: "as the Rust".to_string(),
         }),

@@ -1,4 +1,4 @@
-//! A window by document 01: its numbers, its refusals, and what each call answers and changes. It is written from the
+//! A window by the scope: its numbers, its refusals, and what each call answers and changes. It is written from the
 //! document, apart from our library; it reads the buffer that our library is lent.
 
 use crate::journals::walks::{layout_at, length_at, Place};

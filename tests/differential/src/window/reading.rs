@@ -10,7 +10,7 @@ use crate::usn::reader::UsnJournalReader;
 use crate::usn::UsnRecord;
 use std::io::{Cursor, Read, Seek};
 
-/// A journal with the records that the Rust's reader gives and the places that document 01's walk gives.
+/// A journal with the records that the Rust's reader gives and the places that the scope's walk gives.
 pub struct Stream<'a> {
     pub bytes: &'a [u8],
     pub records: Vec<UsnRecord>,
@@ -51,7 +51,7 @@ impl<'a> Stream<'a> {
             records: records_of(Cursor::new(bytes)),
             places: walks::window(bytes),
         };
-        stream.same_count("document 01 gives", stream.places.len())?;
+        stream.same_count("the scope gives", stream.places.len())?;
         for (place, record) in stream.places.iter().zip(&stream.records) {
             compare_given(bytes, place.offset, record)?;
         }
@@ -106,7 +106,7 @@ impl<'a> Stream<'a> {
             return Err(Finding {
                 call: "usn_reader_next".to_string(),
                 what: format!("record {given} is at another place of the stream"),
-                rust: format!("no places; document 01: {expected:?}"),
+                rust: format!("no places; the scope: {expected:?}"),
                 ours: format!("{place:?}"),
             });
         }
@@ -123,7 +123,7 @@ impl<'a> Stream<'a> {
             call: "all of usn_reader_next".to_string(),
             what: format!("{who} {count} records"),
             rust: format!("{} records", self.records.len()),
-            ours: format!("{count} records; document 01: places {:?}", self.places),
+            ours: format!("{count} records; the scope: places {:?}", self.places),
         })
     }
 }
@@ -157,12 +157,12 @@ fn expect(expected: Answer, answered: Answered) -> Result<(), Finding> {
     }
 }
 
-/// An answer in which our window and document 01's agree, where another one must stand.
+/// An answer in which our window and the scope's agree, where another one must stand.
 fn unexpected(expected: &str, answered: &Answered) -> Finding {
     Finding {
         call: "of a window".to_string(),
         what: format!("the answer must be {expected}"),
-        rust: format!("no such call; document 01: {answered:?}"),
+        rust: format!("no such call; the scope: {answered:?}"),
         ours: "the same".to_string(),
     }
 }

@@ -147,7 +147,7 @@ impl Caller for Restless<'_> {
                 call: "one that is refused or asks for nothing".to_string(),
                 what: format!("the window is {:?}, not {numbers:?}", pair.numbers()),
                 rust: "no such call".to_string(),
-                ours: "as document 01's window".to_string(),
+                ours: "as the scope's window".to_string(),
             }),
         }
     }
@@ -199,7 +199,7 @@ impl Restless<'_> {
                 call: "with numbers that are no window's".to_string(),
                 what: format!("the window {wrong:?} is changed"),
                 rust: "no such call".to_string(),
-                ours: "as document 01's window".to_string(),
+                ours: "as the scope's window".to_string(),
             }),
         }
     }
