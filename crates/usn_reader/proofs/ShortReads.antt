@@ -3,7 +3,7 @@
 -- ended the reading. Assumes nothing.
 use Prim.Native.Nat.{ℕ, _+_, _-_, _≤_, _<_}
 use mathlib.Core.Path.{_≡_, refl, sym, ap, _∙_}
-use mathlib.Core.List.{List, [], _∷_, _++_, append-assoc}
+use mathlib.Core.List.{List, [], _∷_, _++_, append-assoc, append-nil}
 use mathlib.Core.Bool.{Bool, true, false, cond, true≢false}
 use native.Mathlib.Omega.{arith}
 use lib.ListN.{length}
@@ -166,3 +166,27 @@ module _ (s : List ℕ) where
   pub no-early-end : (b : List ℕ) → length b ≡ windowSize → (cs : List Call) → AllCarry s cs (freshOver s b) → AllGo cs (freshOver s b)
       → All (λ x. x .answer ≡ End → coming s (x .reader) ≡ []) (readings cs (freshOver s b))
   no-early-end b e cs k o = run-ends cs (freshOver s b) (fresh-holds b e) k o (λ f. absurd (true≢false (sym f)))
+
+  -- the state that a list of calls reaches holds the journal as well, and is quiet
+  run-reaches : (cs ds : List Call) (st : State) → Holds st → AllCarry s (cs ++ ds) st → AllGo (cs ++ ds) st → Quiet s (st .window)
+      → Holds (reached cs st) × Quiet s (reached cs st .window) × AllCarry s ds (reached cs st) × AllGo ds (reached cs st)
+  run-reaches [] ds st h k o q = (h, q, k, o)
+  run-reaches (c ∷ cs) ds st h k o q =
+      let g = call-goes c st h (k .0) in
+      run-reaches cs ds (stateAfter c st) (g .2) (k .1) (o .1) (g .1 (o .0) q .1)
+
+  reached-last : (cs : List Call) (c : Call) (st : State) → reached (cs ++ (c ∷ [])) st ≡ stateAfter c (reached cs st)
+  reached-last [] c st = refl
+  reached-last (d ∷ cs) c st = reached-last cs c (stateAfter d st)
+
+  -- so whoever goes on until the end, and never gives nothing while bytes are wanted, has all records, however the bytes were cut
+  pub all-given : (b : List ℕ) → length b ≡ windowSize → (cs : List Call) (c : Call) → AllCarry s (cs ++ (c ∷ [])) (freshOver s b) → AllGo (cs ++ (c ∷ [])) (freshOver s b)
+      → readingOf c (reached cs (freshOver s b)) .answer ≡ End → givenBy (readings (cs ++ (c ∷ [])) (freshOver s b)) ≡ windowList s
+  all-given b e cs c k o a =
+      let st = freshOver s b in
+      let r = run-reaches cs (c ∷ []) st (fresh-holds b e) k o (λ f. absurd (true≢false (sym f))) in
+      let g = call-goes c (reached cs st) (r .0) (r .2 .0) in
+      let z : coming s (readingOf c (reached cs st) .reader) ≡ [] = g .1 (r .3 .0) (r .1) .0 a in
+      sym (append-nil (givenBy (readings (cs ++ (c ∷ [])) st)))
+      ∙ ap (λ (l : List Place). givenBy (readings (cs ++ (c ∷ [])) st) ++ l) (sym z ∙ ap (λ (x : State). coming s (x .window)) (sym (reached-last cs c st)))
+      ∙ short-reads b e (cs ++ (c ∷ [])) k .0
