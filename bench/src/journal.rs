@@ -5,8 +5,8 @@ use crate::random::Random;
 /// The bytes of a run of records, from the shortest to the longest; the gap behind it is as long.
 const RUN: [usize; 2] = [4096, 1 << 20];
 
-/// The units of a name, from the fewest to the most.
-const NAME: [usize; 2] = [4, 40];
+/// The fewest units of a name, where the longest has as many.
+const SHORTEST_NAME: usize = 4;
 
 /// One in so many records is of version 3.
 const VERSION_3: usize = 16;
@@ -17,8 +17,8 @@ const TIME: u64 = 132_223_104_000_000_000;
 /// The reasons that follow one another as files come and go: created, extended, closed, renamed, deleted.
 const REASONS: [u32; 6] = [0x100, 0x102, 0x8000_0102, 0x1000, 0x2000, 0x8000_0200];
 
-/// A journal of at least so many bytes, by its seed alone.
-pub fn generated(seed: u64, size: usize) -> Vec<u8> {
+/// A journal of at least so many bytes, by its seed and the units of its longest name alone.
+pub fn generated(seed: u64, size: usize, longest_name: usize) -> Vec<u8> {
     let mut random = Random::of_case(seed, 0, 0);
     let mut bytes = Vec::with_capacity(size + 4 * RUN[1]);
     let mut time = TIME;
@@ -27,19 +27,19 @@ pub fn generated(seed: u64, size: usize) -> Vec<u8> {
         let end = start + random.between(RUN[0], RUN[1]);
         while bytes.len() < end {
             time += random.below(1_000_000) as u64;
-            record(&mut random, time, &mut bytes);
+            let units = random.between(SHORTEST_NAME.min(longest_name), longest_name);
+            record(&mut random, time, units, &mut bytes);
         }
         bytes.resize(2 * bytes.len() - start, 0);
     }
     bytes
 }
 
-/// Appends a record, with its name behind the fixed part and up to the next word.
-fn record(random: &mut Random, time: u64, bytes: &mut Vec<u8>) {
+/// Appends a record, with its name of so many units behind the fixed part and up to the next word.
+fn record(random: &mut Random, time: u64, units: usize, bytes: &mut Vec<u8>) {
     let start = bytes.len();
     let version: u16 = if random.one_in(VERSION_3) { 3 } else { 2 };
     let reference = if version == 3 { 16 } else { 8 };
-    let units = random.between(NAME[0], NAME[1]);
     let fixed = 44 + 2 * reference;
     let length = (fixed + 2 * units).next_multiple_of(8);
     bytes.extend((length as u32).to_le_bytes());

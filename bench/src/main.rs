@@ -29,7 +29,7 @@ use std::thread;
 use std::time::{Duration, Instant};
 use table::Table;
 
-const USAGE: &str = "usage: bench [--seed N] [--mebibytes N]";
+const USAGE: &str = "usage: bench [--seed N] [--mebibytes N] [--longest-name UNITS]";
 
 /// The Rust's reader calls itself for words that are no record, so that it may take a large stack.
 const STACK: usize = 1 << 30;
@@ -59,13 +59,14 @@ pub fn clock<T>(call: impl FnOnce() -> T) -> (Duration, T) {
 }
 
 fn main() -> ExitCode {
-    let Some((seed, mebibytes)) = command(std::env::args().skip(1)) else {
+    let Some((seed, mebibytes, longest_name)) = command(std::env::args().skip(1)) else {
         eprintln!("{USAGE}");
         return ExitCode::from(2);
     };
     let measuring = thread::Builder::new().stack_size(STACK).spawn(move || {
-        let journal = journal::generated(seed, mebibytes << 20);
-        println!("journal: {} bytes, seed {seed}", journal.len());
+        let journal = journal::generated(seed, mebibytes << 20, longest_name);
+        let bytes = journal.len();
+        println!("journal: {bytes} bytes, seed {seed}, longest name {longest_name}");
         measure(&journal)
     });
     let measured = measuring.expect("there is room for a stack").join();
@@ -78,18 +79,19 @@ fn main() -> ExitCode {
     }
 }
 
-/// The seed and the journal's size; nothing where the command line is not understood.
-fn command(mut words: impl Iterator<Item = String>) -> Option<(u64, usize)> {
-    let (mut seed, mut mebibytes) = (1, 256);
+/// The seed, the journal's size and its longest name's units; nothing where the command line is not understood.
+fn command(mut words: impl Iterator<Item = String>) -> Option<(u64, usize, usize)> {
+    let (mut seed, mut mebibytes, mut longest_name) = (1, 256, 40);
     while let Some(word) = words.next() {
         let value = words.next()?;
         match word.as_str() {
             "--seed" => seed = value.parse().ok()?,
             "--mebibytes" => mebibytes = value.parse().ok().filter(|size| (1..=1024).contains(size))?,
+            "--longest-name" => longest_name = value.parse().ok().filter(|units| (1..=255).contains(units))?,
             _ => return None,
         }
     }
-    Some((seed, mebibytes))
+    Some((seed, mebibytes, longest_name))
 }
 
 /// Times every reader and prints the table. Every timing must give what the Rust's scan gives.
