@@ -15,7 +15,7 @@ use usn_record::zeros::skip_zeros;
 
 // Whether the records to be carved are no more than room. None is counted where room is enough for any extract so long: a
 // carved record takes 64 bytes, of which the last may lack 4.
-pub fn has_room(extract: &[u8], room: usize, lower: u64, upper: u64, largest: usize) -> bool
+pub(crate) fn has_room(extract: &[u8], room: usize, lower: u64, upper: u64, largest: usize) -> bool
     ensures { λ r. ⌜ r ≡ leb (length (recordsIn (settingsOf lower upper largest) (now (extract .entry)))) room ⌝ }
 {
     if (extract.len() + 4) / 64 <= room {
@@ -48,7 +48,7 @@ fn count_records(extract: &[u8], lower: u64, upper: u64, largest: usize) -> usiz
 }
 
 // The carved records into the list, and the counters of the run.
-pub fn fill_list(
+pub(crate) fn fill_list(
     extract: &[u8],
     list: &mut [usize],
     lower: u64,

@@ -23,7 +23,13 @@ pub enum CarveStep {
 }
 
 // The visit of offset o, for the times from lower to upper, given by their bits, and records of up to largest bytes.
-pub fn carve_step(extract: &[u8], o: usize, lower: u64, upper: u64, largest: usize) -> CarveStep
+pub(crate) fn carve_step(
+    extract: &[u8],
+    o: usize,
+    lower: u64,
+    upper: u64,
+    largest: usize,
+) -> CarveStep
     ensures { λ r. ⌜ visitOf o r ≡ visit (settingsOf lower upper largest) (now (extract .entry)) o ⌝ }
 {
     let end = extract.len();

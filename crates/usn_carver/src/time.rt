@@ -6,7 +6,7 @@ ghost use mir.Val.{toZ};
 ghost use Rattle.usn_carver.specs.Carve.{badTime};
 
 // Whether a time lies outside the limits.
-pub fn bad_time(time: u64, lower: u64, upper: u64) -> bool
+pub(crate) fn bad_time(time: u64, lower: u64, upper: u64) -> bool
     ensures { λ r. ⌜ r ≡ badTime (toZ w64 lower) (toZ w64 upper) (toZ w64 time) ⌝ }
 {
     if earlier(time, lower) {

@@ -12,7 +12,7 @@ use usn_record::zeros::skip_zeros;
 
 // Whether the records fit a list with room for so many. A record takes 64 bytes of the scan, so where the room is enough for any
 // extract of this length they are not counted.
-pub fn has_room(extract: &[u8], room: usize) -> bool
+pub(crate) fn has_room(extract: &[u8], room: usize) -> bool
     requires { ⌜ length (now extract) ≤ domain ⌝ }
     ensures { λ r. ⌜ r ≡ leb (length (scanned (now (extract .entry)))) room ⌝ }
 {
@@ -57,7 +57,7 @@ fn count_records(extract: &[u8]) -> usize
 }
 
 // Writes the place of each record to a list that has room for them all, and answers how many there are.
-pub fn write_records(extract: &[u8], list: &mut [usize]) -> usize
+pub(crate) fn write_records(extract: &[u8], list: &mut [usize]) -> usize
     requires { ⌜ length (now extract) ≤ domain ⌝ }
     requires { ⌜ length (scanned (now extract)) ≤ length (now list) / 2 ⌝ }
     ensures { λ r. ⌜ r ≡ length (scanned (now (extract .entry))) ⌝ }

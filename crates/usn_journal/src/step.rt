@@ -42,7 +42,7 @@ pub enum ScanStep {
 
 // The visit at an offset: no room for a header, or a length that passes the end, stops the scan; a length that no record has moves
 // on a word of 8 bytes, and so do zero words.
-pub fn scan_step(extract: &[u8], o: usize) -> ScanStep
+pub(crate) fn scan_step(extract: &[u8], o: usize) -> ScanStep
     requires { ⌜ length (now extract) ≤ domain ⌝ }
     ensures { λ r. ⌜ visitOf r ≡ visit (now (extract .entry)) o ⌝ }
 {

@@ -14,7 +14,7 @@ use walk::put_words;
 pub const STATS_WORDS: usize = 5;
 
 // Carving's answer: 0 with the counters in front of the lent words, or the refusal.
-pub fn put_stats(carving: Carving, out: &mut [u64]) -> u32
+pub(crate) fn put_stats(carving: Carving, out: &mut [u64]) -> u32
     requires { ⌜ 5 ≤ length (now out) ⌝ }
     ensures { λ r. ⌜ r ≡ number (outcome carving) ⌝ }
     ensures { λ _. ⌜ now (out .exit) ≡ listAfter statsWords (outcome carving) (now (out .entry)) ⌝ }

@@ -12,7 +12,7 @@ use usn_journal::Scanned;
 pub const JOURNAL_WORDS: usize = 1;
 
 // A scan's answer: 0 with the number of records as the first of the lent words, or the refusal.
-pub fn put_count(s: Scanned, out: &mut [u64]) -> u32
+pub(crate) fn put_count(s: Scanned, out: &mut [u64]) -> u32
     requires { ⌜ 1 ≤ length (now out) ⌝ }
     ensures { λ r. ⌜ r ≡ number (scanOutcome s) ⌝ }
     ensures { λ _. ⌜ now (out .exit) ≡ listAfter countWords (scanOutcome s) (now (out .entry)) ⌝ }

@@ -14,7 +14,7 @@ use walk::put_words;
 const RECORD_WORDS: usize = 19;
 
 // A parser's answer: 0 with the record's words in front of the lent ones, or the refusal; 5 where they have no room.
-pub fn put_record(p: Parsed, words: &mut [u64]) -> u32
+pub(crate) fn put_record(p: Parsed, words: &mut [u64]) -> u32
     ensures { λ r. ⌜ r ≡ number (written recordWords (length (now (words .entry))) (outcome p)) ⌝ }
     ensures { λ _. ⌜ now (words .exit) ≡ listAfter recordWords (written recordWords (length (now (words .entry))) (outcome p)) (now (words .entry)) ⌝ }
 {
@@ -32,7 +32,7 @@ pub fn put_record(p: Parsed, words: &mut [u64]) -> u32
 }
 
 // The record's fields, a word each.
-pub fn row_of(r: UsnRecord) -> [u64; 19]
+pub(crate) fn row_of(r: UsnRecord) -> [u64; 19]
     ensures { λ row. ⌜ row ≡ recordWords r ⌝ }
 {
     [

@@ -26,7 +26,7 @@ const KIND_WANTS: u64 = 1;
 const KIND_RECORD: u64 = 2;
 
 // The window that the first words are.
-pub fn reader_of(words: &[u64]) -> UsnJournalReader
+pub(crate) fn reader_of(words: &[u64]) -> UsnJournalReader
     requires { ⌜ 6 ≤ length (now words) ⌝ }
     ensures { λ r. ⌜ r ≡ readerOf (now (words .entry)) ⌝ }
 {
@@ -41,7 +41,7 @@ pub fn reader_of(words: &[u64]) -> UsnJournalReader
 }
 
 // The window's numbers in front of the lent words.
-pub fn put_reader(w: UsnJournalReader, words: &mut [u64])
+pub(crate) fn put_reader(w: UsnJournalReader, words: &mut [u64])
     requires { ⌜ 6 ≤ length (now words) ⌝ }
     ensures { λ _. ⌜ now (words .exit) ≡ sets (now (words .entry)) 0 (readerWords w) ⌝ }
 {
@@ -64,7 +64,7 @@ fn reader_row(w: UsnJournalReader) -> [u64; 6]
 }
 
 // A call's answer: 0 with the window's words and the answer's in front of the lent ones, or the refusal.
-pub fn put_reading(x: Reading, reader: &mut [u64], out: &mut [u64]) -> u32
+pub(crate) fn put_reading(x: Reading, reader: &mut [u64], out: &mut [u64]) -> u32
     requires { ⌜ (6 ≤ length (now reader)) × (22 ≤ length (now out)) ⌝ }
     ensures { λ r. ⌜ r ≡ number (readingOutcome x) ⌝ }
     ensures { λ _. ⌜ now (reader .exit) ≡ listAfter windowWords (readingOutcome x) (now (reader .entry)) ⌝ }

@@ -24,7 +24,7 @@ pub enum Turn {
 
 impl UsnJournalReader {
     // The answer of all turns.
-    pub fn search(self, buffer: &[u8]) -> Reading
+    pub(crate) fn search(self, buffer: &[u8]) -> Reading
         requires { ⌜ Ready self (length (now buffer)) ⌝ }
         ensures { λ r. ⌜ r ≡ searched (bufferReads (now (buffer .entry))) self ⌝ }
     {

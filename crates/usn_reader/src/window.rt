@@ -26,7 +26,7 @@ fn window_end(p: usize, total: usize) -> usize
 
 impl UsnJournalReader {
     // The number of the refusal of a call with a buffer of so many bytes, or 0.
-    pub fn refusal(self, buffer_length: usize) -> u32
+    pub(crate) fn refusal(self, buffer_length: usize) -> u32
         ensures { λ r. ⌜ r ≡ refusalOf self «buffer_length» ⌝ }
     {
         if STREAM_DOMAIN < self.total {
@@ -76,7 +76,7 @@ impl UsnJournalReader {
     }
 
     // The bytes that the window still wants; none after an end.
-    pub fn wanted(self) -> usize
+    pub(crate) fn wanted(self) -> usize
         requires { ⌜ self .start + self .held ≤ self .end ⌝ }
         ensures { λ r. ⌜ r ≡ wantedOf self ⌝ }
     {
@@ -88,7 +88,7 @@ impl UsnJournalReader {
     }
 
     // The answer that wants the window's next bytes.
-    pub fn asking(self) -> Reading
+    pub(crate) fn asking(self) -> Reading
         requires { ⌜ (self .start + self .held ≤ self .end) ⌝ }
         ensures { λ r. ⌜ r ≡ asks self ⌝ }
     {
@@ -102,7 +102,7 @@ impl UsnJournalReader {
     }
 
     // A window that starts at the position, with no bytes yet.
-    pub fn refill(self) -> UsnJournalReader
+    pub(crate) fn refill(self) -> UsnJournalReader
         ensures { λ r. ⌜ r ≡ refilled self ⌝ }
     {
         UsnJournalReader {
@@ -116,7 +116,7 @@ impl UsnJournalReader {
     }
 
     // Past 8 bytes that begin no record.
-    pub fn skip(self) -> UsnJournalReader
+    pub(crate) fn skip(self) -> UsnJournalReader
         requires { ⌜ self .position < 2000000000000 ⌝ }
         ensures { λ r. ⌜ r ≡ skipped self ⌝ }
     {
@@ -126,7 +126,7 @@ impl UsnJournalReader {
     }
 
     // Past a record of n bytes.
-    pub fn advance(self, n: usize) -> UsnJournalReader
+    pub(crate) fn advance(self, n: usize) -> UsnJournalReader
         requires { ⌜ (self .position < 2000000000000) × (n ≤ 65536) ⌝ }
         ensures { λ r. ⌜ r ≡ advanced self n ⌝ }
     {
@@ -136,7 +136,7 @@ impl UsnJournalReader {
     }
 
     // With k bytes more in the buffer.
-    pub fn fed(self, k: usize) -> UsnJournalReader
+    pub(crate) fn fed(self, k: usize) -> UsnJournalReader
         requires { ⌜ self .start + (self .held + k) ≤ self .end ⌝ }
         ensures { λ r. ⌜ r ≡ fedBy self k ⌝ }
     {
@@ -146,7 +146,7 @@ impl UsnJournalReader {
     }
 
     // At its end: nothing is wanted any more.
-    pub fn finish(self) -> UsnJournalReader
+    pub(crate) fn finish(self) -> UsnJournalReader
         ensures { λ r. ⌜ r ≡ finished self ⌝ }
     {
         let mut next = self;

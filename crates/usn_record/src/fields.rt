@@ -22,7 +22,7 @@ pub struct Reference {
 }
 
 // The signed number with these bits.
-pub fn signed(bits: u64) -> i64
+pub(crate) fn signed(bits: u64) -> i64
     ensures { λ r. ⌜ r ≡ toZ w64 bits ⌝ }
 {
     if bits < 0x8000_0000_0000_0000 {
@@ -33,7 +33,7 @@ pub fn signed(bits: u64) -> i64
 }
 
 // A FILETIME, by its bits, as seconds and nanoseconds since 1970; one before that, also a negative one, is 0, 0.
-pub fn filetime_to_timestamp(bits: u64) -> Timestamp
+pub(crate) fn filetime_to_timestamp(bits: u64) -> Timestamp
     ensures { λ r. ⌜ r ≡ timestampOf (toZ w64 bits) ⌝ }
 {
     if 0x8000_0000_0000_0000 <= bits {
@@ -56,7 +56,7 @@ pub fn filetime_to_timestamp(bits: u64) -> Timestamp
 }
 
 // The file reference at an offset: 16 bytes where it is wide, else 8.
-pub fn read_reference(data: &[u8], at: usize, wide: bool, sequenced: bool) -> Reference
+pub(crate) fn read_reference(data: &[u8], at: usize, wide: bool, sequenced: bool) -> Reference
     requires { ⌜ at + cond wide 16 8 ≤ length (now «data») ⌝ }
     ensures { λ r. ⌜ r ≡ referenceOf sequenced (leAt (cond wide 16 8) (now («data» .entry)) at) ⌝ }
 {
@@ -90,7 +90,7 @@ fn parts_of(low: u64, high: u64, sequenced: bool) -> Reference
 }
 
 // The place of a name of length bytes at offset, where it may go up to end; 0, 0 where it is empty or passes end.
-pub fn filename_place(end: usize, offset: u16, length: u16) -> Place
+pub(crate) fn filename_place(end: usize, offset: u16, length: u16) -> Place
     ensures { λ r. ⌜ r ≡ filenameOf end offset length ⌝ }
 {
     let o = offset as usize;

@@ -23,7 +23,7 @@ const USN_MAX_RECORD_SIZE: usize = 65536;
 
 // A record whose parent reference is at parent and whose fields from the USN on begin at tail. The layout's numbers are
 // parameters of their own and no struct, so that the compiler makes one function with constant offsets for each version.
-pub fn parse(
+pub(crate) fn parse(
     data: &[u8],
     parent: usize,
     tail: usize,
