@@ -1,0 +1,58 @@
+-- Unicode's cases, computed: an unpaired surrogate, a pair, and the ends of each length of UTF-8. Assumes nothing.
+use mathlib.Core.Path.{_≡_, refl}
+use mathlib.Core.List.{List, [], _∷_}
+use Rattle.utf16.specs.Utf16.{alone, codePoints, unitsAt}
+use Rattle.utf16.specs.Utf8.{utf8}
+use Rattle.utf16.specs.Text.{decoded}
+use Rattle.utf16.specs.Decimal.{digits, decimal}
+
+pub lone-high : decoded (0xD800 ∷ []) ≡ 0xEF ∷ 0xBF ∷ 0xBD ∷ []
+unfolding decoded codePoints alone utf8
+lone-high = refl
+
+pub lone-low : decoded (0xDFFF ∷ []) ≡ 0xEF ∷ 0xBF ∷ 0xBD ∷ []
+unfolding decoded codePoints alone utf8
+lone-low = refl
+
+pub pair : decoded (0xD83D ∷ 0xDE00 ∷ []) ≡ 0xF0 ∷ 0x9F ∷ 0x98 ∷ 0x80 ∷ []
+unfolding decoded codePoints alone utf8
+pair = refl
+
+-- turned round, the surrogates of a pair are two unpaired ones
+pub turned-round : decoded (0xDE00 ∷ 0xD83D ∷ []) ≡ 0xEF ∷ 0xBF ∷ 0xBD ∷ 0xEF ∷ 0xBF ∷ 0xBD ∷ []
+unfolding decoded codePoints alone utf8
+turned-round = refl
+
+-- a high surrogate before a pair, and before a letter
+pub high-then-pair : codePoints (0xD800 ∷ 0xD800 ∷ 0xDC00 ∷ []) ≡ 0xFFFD ∷ 0x10000 ∷ []
+unfolding codePoints alone
+high-then-pair = refl
+
+pub high-then-letter : codePoints (0xDBFF ∷ 0x61 ∷ []) ≡ 0xFFFD ∷ 0x61 ∷ []
+unfolding codePoints alone
+high-then-letter = refl
+
+-- the first and the last code point of each length
+pub ends-of-one : decoded (0x0 ∷ 0x7F ∷ []) ≡ 0x0 ∷ 0x7F ∷ []
+unfolding decoded codePoints alone utf8
+ends-of-one = refl
+
+pub ends-of-two : decoded (0x80 ∷ 0x7FF ∷ []) ≡ 0xC2 ∷ 0x80 ∷ 0xDF ∷ 0xBF ∷ []
+unfolding decoded codePoints alone utf8
+ends-of-two = refl
+
+pub ends-of-three : decoded (0x800 ∷ 0xFFFF ∷ []) ≡ 0xE0 ∷ 0xA0 ∷ 0x80 ∷ 0xEF ∷ 0xBF ∷ 0xBF ∷ []
+unfolding decoded codePoints alone utf8
+ends-of-three = refl
+
+pub ends-of-four : decoded (0xD800 ∷ 0xDC00 ∷ 0xDBFF ∷ 0xDFFF ∷ []) ≡ 0xF0 ∷ 0x90 ∷ 0x80 ∷ 0x80 ∷ 0xF4 ∷ 0x8F ∷ 0xBF ∷ 0xBF ∷ []
+unfolding decoded codePoints alone utf8
+ends-of-four = refl
+
+pub zero-digit : decimal 0 ≡ 0x30 ∷ []
+unfolding digits
+zero-digit = refl
+
+pub three-digits : decimal 205 ≡ 0x32 ∷ 0x30 ∷ 0x35 ∷ []
+unfolding digits
+three-digits = refl
