@@ -1,7 +1,7 @@
 -- Unicode's cases, computed: an unpaired surrogate, a pair, and the ends of each length of UTF-8. Assumes nothing.
 use mathlib.Core.Path.{_≡_, refl}
-use mathlib.Core.List.{List, [], _∷_}
-use Rattle.utf16.specs.Utf16.{alone, codePoints, unitsAt}
+use mathlib.Core.List.{[], _∷_}
+use Rattle.utf16.specs.Utf16.{alone, codePoints}
 use Rattle.utf16.specs.Utf8.{utf8}
 use Rattle.utf16.specs.Text.{decoded}
 use Rattle.utf16.specs.Decimal.{digits, decimal}

@@ -1,12 +1,10 @@
 -- The text of units by their first code point, of ASCII, and its length: at most three bytes a unit. Assumes nothing.
-use Prim.Native.Nat.{ℕ, zero, suc, _+_, _*_, _/_, _^_, _≤_, _<_}
+use Prim.Native.Nat.{ℕ, zero, suc, _+_, _*_, _/_, _≤_, _<_}
 use mathlib.Core.Path.{_≡_, refl, ap, _∙_}
 use mathlib.Core.List.{List, [], _∷_, _++_}
 use mathlib.Core.Bool.{Bool, true, false}
 use native.Mathlib.Omega.{arith}
 use lib.ListN.{length, length-append, getD}
-use Rattle.walk.specs.Lists.{flatten}
-use Rattle.usn_record.specs.Bytes.{leAt}
 use Rattle.usn_record.proofs.ByteLaws.{read-lt}
 use Rattle.utf16.specs.Utf16.{isPair, joined, alone, codePoints, unitsAt}
 use Rattle.utf16.specs.Utf8.{utf8}

@@ -13,6 +13,6 @@ unfoldable pub digits : ℕ → ℕ → List ℕ
 digits zero n = digit (n % 10) ∷ []
 digits (suc k) n = cond (ltb n 10) (digit n ∷ []) (digits k (n / 10) ++ (digit (n % 10) ∷ []))
 
--- a number has fewer digits than its value and two
+-- all digits of n: there are at most n + 1
 abbrev pub decimal : ℕ → List ℕ
 decimal n = digits n n

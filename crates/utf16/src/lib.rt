@@ -1,16 +1,14 @@
 // Text: UTF-16 in little-endian bytes is written as UTF-8, and numbers in decimal.
 //
-// Every function here is proved. The call has no `requires`: any bytes and any text get an answer. The writers of the modules
-// ask for room: they are helpers of our own crates and not offered as calls.
+// Every function here is proved. The call has no `requires`: any bytes and any text get an answer. The modules' writers ask for
+// room and answer the index after what they wrote: they are helpers of our own crates and not offered as calls.
 mod code_point;
 pub mod decimal;
 pub mod name;
+pub mod plain;
 
 ghost use mathlib.Core.Path.{_≡_};
-ghost use mathlib.Core.List.{[], _∷_};
-ghost use Prim.Native.Nat.{_+_, _<_};
 ghost use lib.ListN.{length};
-ghost use lib.Seq.{sets};
 ghost use Rattle.utf16.specs.Decoding.{outcome, decoding, textAfter};
 use crate::name::has_room;
 use crate::name::put_name;
@@ -41,14 +39,4 @@ pub fn decode_utf16(bytes: &[u8], text: &mut [u8]) -> Decoded
     } else {
         Decoded::Refused(TEXT_FULL)
     }
-}
-
-// One byte into a text. As every writer here, it answers the index after what it wrote.
-pub fn put_byte(text: &mut [u8], at: usize, byte: u8) -> usize
-    requires { ⌜ at < length (now text) ⌝ }
-    ensures { λ r. ⌜ r ≡ at + 1 ⌝ }
-    ensures { λ _. ⌜ now (text .exit) ≡ sets (now (text .entry)) at (byte ∷ []) ⌝ }
-{
-    text[at] = byte;
-    at + 1
 }

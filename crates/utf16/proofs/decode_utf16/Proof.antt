@@ -1,8 +1,8 @@
 -- Each way out by its tests.
 use mathlib.Core.Path.{sym, _∙_}
 use native.Mathlib.Omega.{arith}
-use Rattle.utf16.proofs.CallLaws.{above-domain, text-room, text-full, text-written}
 use borrow.Author.Needs.{needs}
+use Rattle.utf16.proofs.CallLaws.{above-domain, text-room, text-full, text-written}
 use Rattle.utf16.proofs.decode_utf16.Statement.{statement}
 use Rattle.utf16.proofs.decode_utf16.Tie as tie
 

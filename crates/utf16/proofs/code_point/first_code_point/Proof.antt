@@ -1,9 +1,9 @@
 -- Each way out by the units read.
 use mathlib.Core.Path.{sym, _∙_}
 use native.Mathlib.Omega.{arith}
+use borrow.Author.Needs.{needs}
 use Rattle.utf16.proofs.Utf16Laws.{pair-units}
 use Rattle.utf16.proofs.FirstLaws.{first-last, first-alone, first-pair}
-use borrow.Author.Needs.{needs}
 use Rattle.utf16.proofs.code_point.first_code_point.Statement.{statement}
 use Rattle.utf16.proofs.code_point.first_code_point.Tie as tie
 

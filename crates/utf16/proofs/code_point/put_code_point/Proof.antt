@@ -2,10 +2,10 @@
 use mathlib.Core.Path.{refl, ap}
 use native.Mathlib.Omega.{arith}
 use native.Mathlib.Numerals.{towards-suc}
+use borrow.Author.Needs.{needs}
 use lib.ListN.{length, length-set}
 use Rattle.utf16.proofs.Utf8Laws.{utf8-one, utf8-two, utf8-three, utf8-four}
 use Rattle.utf16.proofs.PutLaws.{put-as}
-use borrow.Author.Needs.{needs}
 use Rattle.utf16.proofs.code_point.put_code_point.Statement.{statement}
 use Rattle.utf16.proofs.code_point.put_code_point.Tie as tie
 

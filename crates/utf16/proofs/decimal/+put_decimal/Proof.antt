@@ -1,125 +1,82 @@
 -- The digits of the tenth are written first, and then the last digit.
+use Prim.Native.Nat.{ℕ, _<_}
 use mathlib.Core.Path.{refl, ap, _∙_}
 use native.Mathlib.Omega.{arith}
 use borrow.Author.Needs.{needs}
+use borrow.Fn.Kinds.{In}
+use borrow.Fn.PlainCycle.{Measures, is, falls, and}
 use lib.ListN.{length, length-set}
 use Rattle.utf16.proofs.PutLaws.{put-as}
 use Rattle.utf16.proofs.DecimalLaws.{decimal-one, decimal-next, last-room, put-last}
-use Prim.Native.Nat.{ℕ, _<_}
-use borrow.Fn.Kinds.{In}
-use borrow.Fn.PlainCycle.{Measures, is, falls, and}
-use Rattle.utf16.proofs.decimal.put_decimal.Reads as put-decimal
-use Rattle.utf16.proofs.decimal.put_decimal.Kinds as put-decimal-kinds
-use Rattle.utf16.proofs.decimal.+put_decimal.Lts-put_decimal as put-decimal-lts
+use Rattle.utf16.proofs.decimal.put_decimal.Reads as reads
+use Rattle.utf16.proofs.decimal.put_decimal.Kinds as kinds
+use Rattle.utf16.proofs.decimal.+put_decimal.Lts-put_decimal as lts
 use Rattle.utf16.proofs.decimal.+put_decimal.{statement}
 use Rattle.utf16.proofs.decimal.+put_decimal.Tie.{close}
 
-abbrev μ-put-decimal : Measures 1 put-decimal-kinds.ps ℕ
-μ-put-decimal κs a = a .1 .1 .0
+abbrev μ : Measures 1 kinds.ps ℕ
+μ κs a = a .1 .1 .0
 
-abbrev put-decimal-at : ℕ → In 1 put-decimal-kinds.ps
-put-decimal-at t =
-    and 1 put-decimal-kinds.ps (is 1 put-decimal-kinds.ps μ-put-decimal t) put-decimal.Pre
+-- the measure is t here, and below t at a call
+abbrev here : ℕ → In 1 kinds.ps
+here t = and 1 kinds.ps (is 1 kinds.ps μ t) reads.Pre
 
-abbrev put-decimal-below : ℕ → In 1 put-decimal-kinds.ps
-put-decimal-below t =
-    and 1 put-decimal-kinds.ps (falls 1 put-decimal-kinds.ps _<_ μ-put-decimal t) put-decimal.Pre
+abbrev below : ℕ → In 1 kinds.ps
+below t = and 1 kinds.ps (falls 1 kinds.ps _<_ μ t) reads.Pre
 
-put-decimal-add-text : (t : ℕ) → put-decimal-lts.Need-add-text (
-  put-decimal-below t,
-  put-decimal.Post,
-) (put-decimal-at t) put-decimal.Post
-put-decimal-add-text t c = omega arith
+add-text : (t : ℕ) → lts.Need-add-text (below t, reads.Post) (here t) reads.Post
+add-text t c = omega arith
 
-put-decimal-cast-text : (t : ℕ) → put-decimal-lts.Need-cast-text (
-  put-decimal-below t,
-  put-decimal.Post,
-) (put-decimal-at t) put-decimal.Post
-put-decimal-cast-text t c = omega arith
+cast-text : (t : ℕ) → lts.Need-cast-text (below t, reads.Post) (here t) reads.Post
+cast-text t c = omega arith
 
-put-decimal-slice-write-text : (t : ℕ) → put-decimal-lts.Need-slice-write-text (
-  put-decimal-below t,
-  put-decimal.Post,
-) (put-decimal-at t) put-decimal.Post
-put-decimal-slice-write-text t c = omega (arith, ap length (decimal-one _ (c .if1 .taken)))
+slice-write-text : (t : ℕ) → lts.Need-slice-write-text (below t, reads.Post) (here t) reads.Post
+slice-write-text t c = omega (arith, ap length (decimal-one _ (c .if1 .taken)))
 
-put-decimal-add-result : (t : ℕ) → put-decimal-lts.Need-add-result (
-  put-decimal-below t,
-  put-decimal.Post,
-) (put-decimal-at t) put-decimal.Post
-put-decimal-add-result t c = omega (arith, ap length (decimal-one _ (c .if1 .taken)))
+add-result : (t : ℕ) → lts.Need-add-result (below t, reads.Post) (here t) reads.Post
+add-result t c = omega (arith, ap length (decimal-one _ (c .if1 .taken)))
 
-put-decimal-same-length : (t : ℕ) → put-decimal-lts.Need-same-length (
-  put-decimal-below t,
-  put-decimal.Post,
-) (put-decimal-at t) put-decimal.Post
-put-decimal-same-length t c = search needs
+same-length : (t : ℕ) → lts.Need-same-length (below t, reads.Post) (here t) reads.Post
+same-length t c = search needs
 
-put-decimal-returns : (t : ℕ) → put-decimal-lts.Need-returns (
-  put-decimal-below t,
-  put-decimal.Post,
-) (put-decimal-at t) put-decimal.Post
-put-decimal-returns t c = put-as _ _ (decimal-one _ (c .if1 .taken)) (refl, refl)
+returns : (t : ℕ) → lts.Need-returns (below t, reads.Post) (here t) reads.Post
+returns t c = put-as _ _ (decimal-one _ (c .if1 .taken)) (refl, refl)
 
-put-decimal-put-decimal-requires : (t : ℕ) → put-decimal-lts.Need-put-decimal-requires (
-  put-decimal-below t,
-  put-decimal.Post,
-) (put-decimal-at t) put-decimal.Post
-put-decimal-put-decimal-requires t c κs = omega (arith, decimal-next (c .before .before .before .args .n) (c .before .if1 .left))
+put-decimal-requires : (t : ℕ) → lts.Need-put-decimal-requires (below t, reads.Post) (here t) reads.Post
+put-decimal-requires t c κs = omega (arith, decimal-next (c .before .before .before .args .n) (c .before .if1 .left))
 
-put-decimal-add-text-2 : (t : ℕ) → put-decimal-lts.Need-add-text-2 (
-  put-decimal-below t,
-  put-decimal.Post,
-) (put-decimal-at t) put-decimal.Post
-put-decimal-add-text-2 t c = omega arith
+add-text-2 : (t : ℕ) → lts.Need-add-text-2 (below t, reads.Post) (here t) reads.Post
+add-text-2 t c = omega arith
 
-put-decimal-cast-text-2 : (t : ℕ) → put-decimal-lts.Need-cast-text-2 (
-  put-decimal-below t,
-  put-decimal.Post,
-) (put-decimal-at t) put-decimal.Post
-put-decimal-cast-text-2 t c = omega arith
+cast-text-2 : (t : ℕ) → lts.Need-cast-text-2 (below t, reads.Post) (here t) reads.Post
+cast-text-2 t c = omega arith
 
-put-decimal-slice-write-text-2 : (t : ℕ) → put-decimal-lts.Need-slice-write-text-2 (
-  put-decimal-below t,
-  put-decimal.Post,
-) (put-decimal-at t) put-decimal.Post
-put-decimal-slice-write-text-2 t c = last-room _ _ _ (c .before .before .before .before .if1 .left) (c .before .before .put-decimal .ensures) (c .before .before .before .before .before .before .pre .1)
+slice-write-text-2 : (t : ℕ) → lts.Need-slice-write-text-2 (below t, reads.Post) (here t) reads.Post
+slice-write-text-2 t c = last-room _ _ _ (c .before .before .before .before .if1 .left) (c .before .before .put-decimal .ensures) (c .before .before .before .before .before .before .pre .1)
 
-put-decimal-add-result-2 : (t : ℕ) → put-decimal-lts.Need-add-result-2 (
-  put-decimal-below t,
-  put-decimal.Post,
-) (put-decimal-at t) put-decimal.Post
-put-decimal-add-result-2 t c = omega (arith, last-room _ _ _ (c .before .before .before .before .if1 .left) (c .before .before .put-decimal .ensures) (c .before .before .before .before .before .before .pre .1))
+add-result-2 : (t : ℕ) → lts.Need-add-result-2 (below t, reads.Post) (here t) reads.Post
+add-result-2 t c = omega (arith, last-room _ _ _ (c .before .before .before .before .if1 .left) (c .before .before .put-decimal .ensures) (c .before .before .before .before .before .before .pre .1))
 
-put-decimal-same-length-2 : (t : ℕ) → put-decimal-lts.Need-same-length-2 (
-  put-decimal-below t,
-  put-decimal.Post,
-) (put-decimal-at t) put-decimal.Post
-put-decimal-same-length-2 t c = length-set (c .before .before .put-decimal .last .0) (c .before .before .put-decimal .result) _ ∙ c .before .before .put-decimal .kept .0
+same-length-2 : (t : ℕ) → lts.Need-same-length-2 (below t, reads.Post) (here t) reads.Post
+same-length-2 t c = length-set (c .before .before .put-decimal .last .0) (c .before .before .put-decimal .result) _ ∙ c .before .before .put-decimal .kept .0
 
-put-decimal-returns-2 : (t : ℕ) → put-decimal-lts.Need-returns-2 (
-  put-decimal-below t,
-  put-decimal.Post,
-) (put-decimal-at t) put-decimal.Post
-put-decimal-returns-2 t c = put-last _ _ _ (c .before .before .before .before .if1 .left) (c .before .before .put-decimal .ensures)
+returns-2 : (t : ℕ) → lts.Need-returns-2 (below t, reads.Post) (here t) reads.Post
+returns-2 t c = put-last _ _ _ (c .before .before .before .before .if1 .left) (c .before .before .put-decimal .ensures)
 
 pub +put-decimal-spec : {M : Type 1} → statement M
-+put-decimal-spec = close μ-put-decimal λ t. put-decimal-lts.spec (
-  put-decimal-below t,
-  put-decimal.Post,
-)
-    (put-decimal-at t)
-    put-decimal.Post
-    (put-decimal-add-text t)
-    (put-decimal-cast-text t)
-    (put-decimal-slice-write-text t)
-    (put-decimal-add-result t)
-    (put-decimal-same-length t)
-    (put-decimal-returns t)
-    (put-decimal-put-decimal-requires t)
-    (put-decimal-add-text-2 t)
-    (put-decimal-cast-text-2 t)
-    (put-decimal-slice-write-text-2 t)
-    (put-decimal-add-result-2 t)
-    (put-decimal-same-length-2 t)
-    (put-decimal-returns-2 t)
++put-decimal-spec = close μ λ t. lts.spec (below t, reads.Post)
+    (here t)
+    reads.Post
+    (add-text t)
+    (cast-text t)
+    (slice-write-text t)
+    (add-result t)
+    (same-length t)
+    (returns t)
+    (put-decimal-requires t)
+    (add-text-2 t)
+    (cast-text-2 t)
+    (slice-write-text-2 t)
+    (add-result-2 t)
+    (same-length-2 t)
+    (returns-2 t)

@@ -3,9 +3,9 @@ use Prim.Native.Nat.{ℕ}
 use mathlib.Core.Path.{sym, ap}
 use native.Mathlib.Omega.{arith}
 use borrow.Author.Tests.{le-leb}
+use borrow.Author.Needs.{needs}
 use lib.Dec.{leb}
 use Rattle.utf16.proofs.TextLaws.{name-room}
-use borrow.Author.Needs.{needs}
 use Rattle.utf16.proofs.name.has_room.Statement.{statement}
 use Rattle.utf16.proofs.name.has_room.Tie as tie
 

@@ -1,6 +1,5 @@
 -- The invariant: the bytes counted, with those of the units left, are all of the name's.
 use native.Mathlib.Omega.{arith}
-use borrow.Author.Needs.{needs}
 use Rattle.utf16.proofs.NameLaws.{Counting, counting-start, counting-point, counting-ascii, counting-most, counting-end}
 use Rattle.utf16.proofs.name.name_length.Statement.{statement}
 use Rattle.utf16.proofs.name.name_length.Tie as tie

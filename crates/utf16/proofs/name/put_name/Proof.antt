@@ -1,6 +1,5 @@
 -- The invariant: what is written, with the text of the units left, is the name's.
 use native.Mathlib.Omega.{arith}
-use borrow.Author.Needs.{needs}
 use Rattle.utf16.proofs.NameLaws.{Putting, putting-start, putting-room, putting-point, ascii-room, putting-ascii, putting-end}
 use Rattle.utf16.proofs.name.put_name.Statement.{statement}
 use Rattle.utf16.proofs.name.put_name.Tie as tie
