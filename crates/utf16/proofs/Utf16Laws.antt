@@ -1,13 +1,13 @@
 -- Pairs, units by themselves, and the first code point of units, by the tests that lead there. Assumes nothing.
 use Prim.Native.Nat.{ℕ, zero, suc, _+_, _≤_, _<_}
-use mathlib.Core.Path.{_≡_, refl, ap}
+use mathlib.Core.Path.{_≡_, refl, ap, sym}
 use mathlib.Core.List.{List, [], _∷_}
 use mathlib.Core.Bool.{Bool, true, false, _&&_, false≢true}
 use native.Mathlib.Omega.{arith}
 use borrow.Author.Tests.{le-leb, lt-leb, leb-true}
 use lib.ListN.{length}
 use lib.Dec.{leb}
-use Rattle.walk.proofs.ChoiceLaws.{cond-cases}
+use Rattle.walk.proofs.ChoiceLaws.{cond-cases, and-false}
 use Rattle.utf16.specs.Utf16.{isHigh, isLow, isSurrogate, isPair, joined, alone, codePoints, unitsAt}
 
 -- a unit by itself
@@ -34,8 +34,8 @@ high-below u v h = simp (lt-leb 0xD800 u h)
 pub high-above : (u v : ℕ) → 0xDBFF < u → false ≡ isPair u v
 high-above u v h = simp (le-leb 0xD800 u (omega arith), lt-leb u 0xDBFF h)
 
-pub low-below : (u v : ℕ) → 0xD800 ≤ u → u ≤ 0xDBFF → v < 0xDC00 → false ≡ isPair u v
-low-below u v g h k = simp (le-leb 0xD800 u g, le-leb u 0xDBFF h, lt-leb 0xDC00 v k)
+pub low-below : (u v : ℕ) → v < 0xDC00 → false ≡ isPair u v
+low-below u v h = sym (and-false (isHigh u) (isLow v) (λ _. simp (lt-leb 0xDC00 v h)))
 
 pub pair-if : (u v : ℕ) → 0xD800 ≤ u → u ≤ 0xDBFF → 0xDC00 ≤ v → leb v 0xDFFF ≡ isPair u v
 pair-if u v g h k = simp (le-leb 0xD800 u g, le-leb u 0xDBFF h, le-leb 0xDC00 v k)
