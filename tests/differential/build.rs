@@ -10,7 +10,7 @@ const ROOT: [&str; 4] = ["bytes", "carve", "refs", "rewind"];
 /// The original's files of the module `usn`.
 const USN: [&str; 3] = ["carver", "reader", "record"];
 
-const LIBRARY: &str = "usn_journal_reader";
+const LIBRARY: &str = "volume_history";
 
 fn main() {
     let project = env::var_os("CARGO_MANIFEST_DIR").expect("cargo sets CARGO_MANIFEST_DIR");

@@ -6,8 +6,11 @@
 
 mod difference;
 mod error;
+mod image;
 mod journals;
+mod lent;
 mod library;
+mod names;
 mod random;
 mod records;
 mod usn;
@@ -68,7 +71,9 @@ fn compare(run: &Run) -> Outcome {
     records::listed::run(run)?;
     journals::scan::run(run)?;
     journals::carver::run(run)?;
-    window::run(run)
+    window::run(run)?;
+    names::run(run)?;
+    image::run(run)
 }
 
 /// The command line; nothing where it is not understood.
