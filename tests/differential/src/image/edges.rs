@@ -128,6 +128,15 @@ fn attribute_lengths(push: &mut Push) {
         entry.name(&Name::of(2, 1));
         push("attribute length", entry.ended());
     }
+    // A walk that moved on by fewer than 8 bytes would meet an attribute which leads to a name.
+    for length in 3..8 {
+        let mut entry = Entry::new(FIRST, 0);
+        entry.put(FIRST + length + LENGTH, 4, 256);
+        entry.put(FIRST + LENGTH, 4, length as u64);
+        entry.next = FIRST + length + 256;
+        entry.name(&Name::of(2, 1));
+        push("attribute length", entry.ended());
+    }
 }
 
 /// The attribute that holds the name, of every length.

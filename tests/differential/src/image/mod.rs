@@ -1,10 +1,12 @@
 //! Images: the carver of MFT entries, `carve.rs` of the original, against the library's. The subject is `image`.
 
-pub mod cases;
+mod cases;
 mod comparison;
-pub mod edges;
-pub mod known;
-pub mod layout;
+mod edges;
+pub mod file;
+mod known;
+mod layout;
+pub mod sample;
 mod walk;
 
 use crate::difference::{Case, Difference, Finding, Outcome};

@@ -121,7 +121,7 @@ fn exhaustive() -> Result<u64, Difference> {
         each(
             bytes,
             text,
-            &[(0, OUT), (100, OUT), (100, 0)].map(|(text, out)| Room { text, out }),
+            &[(100, OUT), (100, 0)].map(|(text, out)| Room { text, out }),
         )?;
     }
     Ok(number)
