@@ -45,8 +45,8 @@ const NAMES: usize = 1_000_000;
 /// The Rust's reader calls itself for words that are no record, so that it may take a large stack.
 const STACK: usize = 1 << 30;
 
-/// What a call gave, to be equal for both: how many records, entries or names, and a sum over some fields of each, in their
-/// order.
+/// What a call gave, to be equal for both: how many records, entries or names, and a sum over some fields of each, in
+/// their order.
 #[derive(Debug, Clone, Copy, PartialEq, Eq, Default)]
 pub struct Sum {
     pub records: u64,

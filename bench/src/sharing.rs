@@ -1,9 +1,8 @@
-//! How long the measuring waited for a core that others used. A wait falls on the longer timings, since a short one may
-//! pass between two waits, so that rates measured on a busy machine favour the faster side.
+//! How long the measuring waited for a core that others used. On a busy machine the rates are off, and the ratios too.
 
 use std::fs;
 
-/// The share of waiting above which the rates say nothing.
+/// The share of waiting above which rates and ratios say nothing.
 const QUIET: f64 = 0.01;
 
 /// How long this thread ran and how long it waited for a core, in nanoseconds, where the system tells it.
@@ -33,7 +32,7 @@ impl Schedule {
         let share = waited as f64 / (ran + waited) as f64;
         print!("Waited for a core {:.1}% of the time", 100.0 * share);
         match share > QUIET {
-            true => println!(": THE MACHINE WAS BUSY, and no rate above may be quoted."),
+            true => println!(": THE MACHINE WAS BUSY, and no rate or ratio above may be quoted."),
             false => println!("."),
         }
     }

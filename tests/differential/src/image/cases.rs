@@ -1,5 +1,5 @@
-//! The random images: one to eight entries sound and damaged, with names of every namespace, empty blocks and rubbish in
-//! any order, whole or cut.
+//! The random images: one to eight entries sound and damaged, with names of every namespace, empty blocks and rubbish
+//! in any order, whole or cut.
 
 use super::layout::{
     Entry, Name, CONTENT_OFFSET, CONTENT_SIZE, END, ENTRY, FILE_NAME, FIRST, FIRST_ATTRIBUTE, FLAGS, LENGTH, NAME,

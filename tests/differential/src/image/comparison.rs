@@ -1,5 +1,5 @@
-//! `mft_carve_entries` held against the Rust and against the scope: the number answered, the words of the list and of the
-//! answer, those left alone, and the text at each name's place.
+//! `mft_carve_entries` held against the Rust and against the scope: the number answered, the words of the list and of
+//! the answer, those left alone, and the text at each name's place.
 
 use super::layout::{sound, ENTRY};
 use super::walk::{self, Counters, Entry};

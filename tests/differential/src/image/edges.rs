@@ -159,7 +159,8 @@ fn content_sizes(push: &mut Push) {
     }
 }
 
-/// The content at every offset, in attributes of a few lengths; what of it would lie in the attribute's header does not.
+/// The content at every offset, in attributes of a few lengths; what of it would lie in the attribute's header does
+/// not.
 fn content_offsets(push: &mut Push) {
     for filler in FILLERS {
         for length in [96, 97, 200, 968] {

@@ -4,8 +4,8 @@ use super::comparison::{compare, every_lent};
 use super::exhaustive_case;
 use std::fs;
 
-/// Compares the two on the file, and says what was carved. An image of which nothing is carved shows nothing, so that it
-/// fails too.
+/// Compares the two on the file, and says what was carved. An image of which nothing is carved shows nothing, so that
+/// it fails too.
 pub fn run(path: &str) -> Result<(), String> {
     let bytes = fs::read(path).map_err(|error| format!("{path}: {error}"))?;
     let walk = compare(&bytes, |entries| every_lent(bytes.len(), entries))

@@ -1,5 +1,5 @@
-//! Where the fields of an MFT entry lie, by the scope's sentences, and a writer of entries. It is written apart from the
-//! original and from our library, so that a mistake in one is not repeated here.
+//! Where the fields of an MFT entry lie, by the scope's sentences, and a writer of entries. It is written apart from
+//! the original and from our library, so that a mistake in one is not repeated here.
 
 /// The bytes of an entry.
 pub const ENTRY: usize = 1024;
@@ -140,7 +140,7 @@ impl Entry {
     }
 }
 
-/// An entry that is carved: standard information, a name of each namespace, and data.
+/// An entry that is carved: standard information, a short and a long name, and data.
 pub fn sound() -> Vec<u8> {
     let mut entry = Entry::new(FIRST, 0);
     entry.attribute(0x10, 96);

@@ -57,8 +57,8 @@ fn exhaustive_case<'a>(number: u64, kind: &'static str, bytes: &'a [u8]) -> Case
     }
 }
 
-/// The images that the scope names, the exhaustive ones, and those at the domain's end; how many they are. An exhaustive
-/// entry stands between two sound ones, so that what is read outside of it shows.
+/// The images that the scope names, the exhaustive ones, and those at the domain's end; how many they are. An
+/// exhaustive entry stands between two sound ones, so that what is read outside of it shows.
 fn exhaustive() -> Result<u64, Difference> {
     let mut number = 0;
     for known in known::cases() {

@@ -1,9 +1,9 @@
-//! The recorded sample of images and names, with the Rust's answers to them, for a test that has no Rust. It is the same
-//! byte for byte in every run.
+//! The recorded sample of images and names, with the Rust's answers to them, for a test that has no Rust. It is the
+//! same byte for byte in every run.
 //!
 //! `stdin` is the inputs one after another: a byte, what it is (1 an image, 2 a name), four bytes, its length, little
-//! endian, and its bytes. `stdout` has the answers: of an image a line with the counters and a line for each entry, of a
-//! name a line with its text in hexadecimal.
+//! endian, and its bytes. `stdout` has the answers: of an image a line with the counters and a line for each entry, of
+//! a name a line with its text in hexadecimal.
 
 use super::layout::ENTRY;
 use super::{cases, edges, known};
@@ -25,8 +25,8 @@ const NAMES: u64 = 3;
 const IMAGES: usize = 50;
 const RECORDED_NAMES: usize = 60;
 
-/// The kinds of exhaustive entries of which some are taken, beside all images that the scope names; random ones make up the
-/// rest.
+/// The kinds of exhaustive entries of which some are taken, beside all images that the scope names; random ones make up
+/// the rest.
 const EXHAUSTIVE: [&str; 17] = [
     "first attribute",
     "sequence",

@@ -1,6 +1,6 @@
-//! The scope's walk over an image: the entries that are carved, and the counters. It is written from the document, apart
-//! from the original and from our library, so that a mistake in one is not repeated here. The Rust tells no places; the
-//! names' places are those of this walk.
+//! The scope's walk over an image: the entries that are carved, and the counters. It is written from the document,
+//! apart from the original and from our library, so that a mistake in one is not repeated here. The Rust tells no
+//! places; the names' places are those of this walk.
 
 use super::layout::{
     CONTENT_OFFSET, CONTENT_SIZE, DIRECTORY, END, ENTRY, FILE_NAME, FIRST_ATTRIBUTE, FLAGS, IN_USE, LENGTH, NAME,

@@ -1,5 +1,5 @@
-//! Names: the library's `utf16_decode` against `String::from_utf16_lossy`, by which the original decodes every name. The
-//! subject is `names`.
+//! Names: the library's `utf16_decode` against `String::from_utf16_lossy`, by which the original decodes every name.
+//! The subject is `names`.
 
 pub mod cases;
 pub mod comparison;
