@@ -21,6 +21,10 @@ lengthPastSlice = 4
 abbrev pub listFull : ℕ
 listFull = 5
 
+-- the text buffer is too small
+abbrev pub textFull : ℕ
+textFull = 8
+
 -- the numbers of a state cannot be those of one
 abbrev pub badState : ℕ
 badState = 9

@@ -20,6 +20,8 @@ pub const BAD_LENGTH: u32 = 3;
 pub const LENGTH_PAST_SLICE: u32 = 4;
 // There are more results than the lent list takes.
 pub const LIST_FULL: u32 = 5;
+// The text buffer is too small.
+pub const TEXT_FULL: u32 = 8;
 // The numbers of a state cannot be those of one.
 pub const BAD_STATE: u32 = 9;
 // More bytes are given than are wanted.
