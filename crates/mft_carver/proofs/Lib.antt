@@ -7,3 +7,4 @@ pub mod FillLaws
 pub mod CallLaws
 pub mod TwoRunLaws
 pub mod ImageTwoRuns
+pub mod Examples

@@ -4,4 +4,5 @@ pub mod Attributes
 pub mod Entry
 pub mod Carve
 pub mod Masking
+pub mod Sample
 pub mod Step
