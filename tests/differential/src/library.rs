@@ -1,4 +1,5 @@
-//! The calls of our library, `libusn_journal_reader.a` and `libvolume_history.a`. Nothing checks these declarations against its source.
+//! The calls of our library, `libusn_journal_reader.a` and `libvolume_history.a`. Nothing checks these declarations
+//! against its source.
 //!
 //! Each call answers 0 and writes the words of its answer, or answers a refusal number and writes nothing. Slices pass
 //! as a pointer and a length. The calls ask nothing of their arguments, so the wrappers are safe for any slices.
