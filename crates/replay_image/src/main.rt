@@ -2,7 +2,6 @@
 //
 // Standard input: for each case a byte, what it is (1 an image, 2 a name), four bytes, its length, and its bytes. The file `stdout`
 // beside src/ holds what the original answered; tests/differential wrote both (--record).
-ghost use Prim.Native.Nat.{_≤_};
 use libc::STDIN_FILENO;
 use libc::STDOUT_FILENO;
 use mft_carver::MftCarving;
@@ -13,6 +12,7 @@ use replay::case_at;
 use replay::write_count;
 use replay::write_field;
 use replay::write_refused;
+use usn_record::bytes::byte_at;
 use utf16::Decoded;
 use utf16::decode_utf16;
 
@@ -66,22 +66,32 @@ fn write_stats(stats: MftCarvingStats) {
     io::write_all(STDOUT_FILENO, b"\n");
 }
 
-// The first n entries of a list, a line each.
+// The first n entries of a list.
 fn write_entries(image: &[u8], list: &[u64], n: usize) {
     for i in 0..n {
         if list.len() / ENTRY_WORDS <= i {
             return;
         }
-        let at = ENTRY_WORDS * i;
-        write_field(list[at]);
-        write_field(list[at + 1]);
-        write_field(list[at + 2]);
-        write_field(list[at + 5]);
-        write_field(list[at + 6]);
-        write_field(list[at + 7]);
-        write_field(list[at + 8]);
-        write_place(image, list[at + 3] as usize, list[at + 4] as usize);
+        write_entry(image, list, ENTRY_WORDS * i);
     }
+}
+
+// A line: the entry whose words begin at an index of the list.
+fn write_entry(image: &[u8], list: &[u64], at: usize) {
+    if list.len() < ENTRY_WORDS {
+        return;
+    }
+    if list.len() - ENTRY_WORDS < at {
+        return;
+    }
+    write_field(list[at]);
+    write_field(list[at + 1]);
+    write_field(list[at + 2]);
+    write_field(list[at + 5]);
+    write_field(list[at + 6]);
+    write_field(list[at + 7]);
+    write_field(list[at + 8]);
+    write_place(image, list[at + 3] as usize, list[at + 4] as usize);
 }
 
 // The text of the name at a place.
@@ -105,16 +115,18 @@ fn write_text(name: &[u8]) {
     }
 }
 
-// The first n bytes of a text, two hexadecimal digits each, or a dash.
+// A line: the first n bytes of a text in hexadecimal, or a dash.
 fn write_hex(text: &[u8], n: usize) {
     if n == 0 {
         io::write_all(STDOUT_FILENO, b"-");
     }
-    for i in 0..n {
-        if text.len() <= i {
-            return;
-        }
-        io::print_hex(STDOUT_FILENO, text[i] as u64, 2);
-    }
+    write_digits(text, n);
     io::write_all(STDOUT_FILENO, b"\n");
+}
+
+// Two digits a byte.
+fn write_digits(text: &[u8], n: usize) {
+    for i in 0..n {
+        io::print_hex(STDOUT_FILENO, byte_at(text, i) as u64, 2);
+    }
 }
