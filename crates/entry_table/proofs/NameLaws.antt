@@ -1,0 +1,54 @@
+-- The test of a name's place, and of all names' places, by its ways out. Assumes nothing.
+use Prim.Native.Nat.{ℕ, _+_, _-_, _≤_, _<_}
+use mathlib.Core.Path.{_≡_, refl, ap, sym, _∙_}
+use mathlib.Core.List.{List, [], _∷_}
+use mathlib.Core.Bool.{Bool, true, false, _&&_}
+use native.Mathlib.Omega.{arith}
+use native.Mathlib.Nat.{sub-zero}
+use borrow.Author.Tests.{leb-true, leb-false, le-leb, lt-leb}
+use lib.Dec.{leb}
+use Rattle.entry_table.specs.Names.{Lengths, lengthOf, inside, allInside}
+use Rattle.entry_table.specs.Slots.{rows}
+use Rattle.entry_table.specs.declared.NamePlace.{NamePlace}
+use Rattle.entry_table.specs.declared.EntryInfo.{EntryInfo}
+use Rattle.entry_table.proofs.RowLaws.{rows-next, rows-end}
+
+-- a length from the end on, and an offset
+leb-sub : (a b e : ℕ) → b ≤ e → leb a (e - b) ≡ leb (a + b) e
+leb-sub a b e h = go (leb a (e - b)) refl
+  where
+    go : (x : Bool) → leb a (e - b) ≡ x → leb a (e - b) ≡ leb (a + b) e
+    go true x = let l : a ≤ e - b = leb-true _ _ x in x ∙ sym (le-leb (a + b) e (omega arith))
+    go false x = let l : e - b < a = leb-false _ _ x in x ∙ sym (lt-leb (a + b) e (omega arith))
+
+module _ (ls : Lengths) (p : NamePlace) {end : ℕ} (e : end ≡ lengthOf ls (p .source)) where
+  pub inside-long : end < p .length → false ≡ inside ls p
+  unfolding inside
+  inside-long h = sym (rw (← e) (lt-leb (p .offset + p .length) end (omega arith)))
+
+  pub inside-else : p .length ≤ end → leb (p .offset) (end - p .length) ≡ inside ls p
+  unfolding inside
+  inside-else h = rw (← e) (leb-sub (p .offset) (p .length) end h)
+
+-- a loop over the rows of a list has passed those below i of n: all are inside exactly if those left are
+pub record Passing (ls : Lengths) (f : ℕ → EntryInfo) (i n : ℕ) : Type 0 where
+  pub near : i ≤ n
+  pub rest : allInside ls (rows f 0 n) ≡ allInside ls (rows f i (n - i))
+
+pub passing-start : (ls : Lengths) (f : ℕ → EntryInfo) (n : ℕ) → Passing ls f 0 n
+passing-start ls f n = record { near = omega arith; rest = rw sub-zero }
+
+module _ {ls : Lengths} {f : ℕ → EntryInfo} {i n : ℕ} (w : Passing ls f i n) where
+  next : {e : EntryInfo} {b : Bool} → i < n → e ≡ f i → b ≡ inside ls (e .name) → allInside ls (rows f 0 n) ≡ (b && allInside ls (rows f (i + 1) (n - (i + 1))))
+  unfolding allInside
+  next h e t = w .rest ∙ ap (allInside ls) (rows-next f i n h) ∙ rw (t, e)
+
+  pub passing-row : {e : EntryInfo} {b : Bool} → i < n → e ≡ f i → b ≡ inside ls (e .name) → b ≡ true → Passing ls f (i + 1) n
+  passing-row h e t y = record { near = omega arith; rest = next h e (sym y ∙ t) }
+
+  pub passing-outside : {e : EntryInfo} {b : Bool} → i < n → e ≡ f i → b ≡ inside ls (e .name) → b ≡ false → false ≡ allInside ls (rows f 0 n)
+  passing-outside h e t y = sym (next h e (sym y ∙ t))
+
+  pub passing-end : n ≤ i → true ≡ allInside ls (rows f 0 n)
+  unfolding allInside
+  passing-end h = sym (w .rest ∙ ap (allInside ls) (rows-end f i n h))
