@@ -1,20 +1,23 @@
 -- The test of a name's place, and of all names' places, by its ways out. Assumes nothing.
-use Prim.Native.Nat.{ℕ, _+_, _-_, _≤_, _<_}
+use Prim.Native.Nat.{ℕ, _+_, _-_, _/_, _≤_, _<_}
 use mathlib.Core.Path.{_≡_, refl, ap, sym, _∙_}
 use mathlib.Core.List.{List, [], _∷_}
-use mathlib.Core.Bool.{Bool, true, false, _&&_}
+use mathlib.Core.Bool.{Bool, true, false, _&&_, and-true}
 use native.Mathlib.Omega.{arith}
 use native.Mathlib.Nat.{sub-zero}
 use borrow.Author.Tests.{leb-true, leb-false, le-leb, lt-leb}
 use lib.Dec.{leb}
+use lib.ListN.{length}
 use Rattle.entry_table.specs.Names.{Lengths, lengthOf, inside, allInside}
 use Rattle.entry_table.specs.Slots.{rows}
+use Rattle.entry_table.specs.Storing.{infosOf}
+use Rattle.entry_table.specs.Carved.{row, carvedAt, carvedInfo, carvedIn}
 use Rattle.entry_table.specs.declared.NamePlace.{NamePlace}
 use Rattle.entry_table.specs.declared.EntryInfo.{EntryInfo}
-use Rattle.entry_table.proofs.RowLaws.{rows-next, rows-end}
+use Rattle.entry_table.proofs.RowLaws.{rows-next, rows-end, map-rows}
 
--- a length from the end on, and an offset
-leb-sub : (a b e : ℕ) → b ≤ e → leb a (e - b) ≡ leb (a + b) e
+-- a test against what is left, and against the whole
+pub leb-sub : (a b e : ℕ) → b ≤ e → leb a (e - b) ≡ leb (a + b) e
 leb-sub a b e h = go (leb a (e - b)) refl
   where
     go : (x : Bool) → leb a (e - b) ≡ x → leb a (e - b) ≡ leb (a + b) e
@@ -52,3 +55,12 @@ module _ {ls : Lengths} {f : ℕ → EntryInfo} {i n : ℕ} (w : Passing ls f i 
   pub passing-end : n ≤ i → true ≡ allInside ls (rows f 0 n)
   unfolding allInside
   passing-end h = sym (w .rest ∙ ap (allInside ls) (rows-end f i n h))
+
+-- what is shown of the rows of a carved list is shown of its additions
+pub carved-infos : (ls : Lengths) (es : List ℕ) {b : Bool} → b ≡ allInside ls (rows (carvedInfo es) 0 (length es / row)) → b ≡ allInside ls (infosOf (carvedIn es))
+carved-infos ls es e = e ∙ ap (allInside ls) (sym (map-rows _ (carvedAt es) 0 (length es / row)))
+
+-- the name of one entry
+pub one-inside : (ls : Lengths) (e : EntryInfo) {b b′ : Bool} → b ≡ inside ls (e .name) → b ≡ b′ → allInside ls (e ∷ []) ≡ b′
+unfolding allInside
+one-inside ls e t y = rw (← t, y) (and-true _)

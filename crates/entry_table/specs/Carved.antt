@@ -45,4 +45,4 @@ seeding ls t es = storing ls t (carvedIn es)
 -- a key is in the table or among the first i carved entries
 unfoldable pub seen : Table → List ℕ → ℕ → EntryKey → Bool
 seen t es zero k = known t k
-seen t es (suc i) k = seen t es i k || sameKey k (carvedKey es i)
+seen t es (suc i) k = seen t es i k || sameKey (carvedKey es i) k

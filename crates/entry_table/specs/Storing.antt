@@ -16,7 +16,7 @@ use Rattle.entry_table.specs.declared.Stored.the-variants.{Used, Refused
 -- how many different keys of a list are new: a key is known once it has come
 unfoldable pub newKeys : (EntryKey → Bool) → List EntryKey → ℕ
 newKeys isKnown [] = 0
-newKeys isKnown (k ∷ ks) = cond (isKnown k) 0 1 + newKeys (λ j. isKnown j || sameKey j k) ks
+newKeys isKnown (k ∷ ks) = cond (isKnown k) 0 1 + newKeys (λ j. isKnown j || sameKey k j) ks
 
 abbrev pub keysOf : List Addition → List EntryKey
 keysOf xs = map (λ (a : Addition). a .key) xs

@@ -80,7 +80,7 @@ fn is_seen(slots: &[u64], used: usize, entries: &[u64], i: usize, key: EntryKey)
     }
     let mut j: usize = 0;
     while j < i {
-        if same_key(key, carved_key(entries, j)) {
+        if same_key(carved_key(entries, j), key) {
             return true;
         }
         j += 1;

@@ -90,26 +90,20 @@ pub fn insert_if_absent(
 // whole entry are ignored.
 // Refused, with nothing written: 9 used is above the slots, 7 a listed name's place passes the image, also of a known entry,
 // 6 the different new keys are more than the slots that are left.
-pub fn seed(
-    journal: &[u8],
-    image: &[u8],
-    slots: &mut [u64],
-    used: usize,
-    entries: &[u64],
-) -> Stored
+pub fn seed(journal: &[u8], image: &[u8], slots: &mut [u64], used: usize, entries: &[u64]) -> Stored
     ensures { λ r. ⌜ outcome r ≡ usedAfter (seeding (lengthsOf (now (journal .entry)) (now (image .entry))) (table (now (slots .entry)) used) (now (entries .entry))) ⌝ }
     ensures { λ _. ⌜ now (slots .exit) ≡ wordsAfter (seeding (lengthsOf (now (journal .entry)) (now (image .entry))) (table (now (slots .entry)) used) (now (entries .entry))) (now (slots .entry)) ⌝ }
 {
     if slots.len() / STRIDE < used {
         return Stored::Refused(BAD_STATE);
     }
-    if carved_inside(entries, journal.len(), image.len()) {
-        if has_room(slots, used, entries) {
-            return add_carved(slots, used, entries);
-        }
+    if !carved_inside(entries, journal.len(), image.len()) {
+        return Stored::Refused(NAME_OUTSIDE);
+    }
+    if !has_room(slots, used, entries) {
         return Stored::Refused(TABLE_FULL);
     }
-    Stored::Refused(NAME_OUTSIDE)
+    add_carved(slots, used, entries)
 }
 
 // One entry, with journal and image by their lengths.
@@ -129,8 +123,8 @@ fn store(
         return Stored::Refused(BAD_STATE);
     }
     let name = info.name;
-    if is_inside(name, journal_length, image_length) {
-        return add(slots, used, key, info, replace);
+    if !is_inside(name, journal_length, image_length) {
+        return Stored::Refused(NAME_OUTSIDE);
     }
-    Stored::Refused(NAME_OUTSIDE)
+    add(slots, used, key, info, replace)
 }

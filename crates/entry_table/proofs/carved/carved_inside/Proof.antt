@@ -3,8 +3,8 @@ use Prim.Native.Nat.{_-_}
 use native.Mathlib.Omega.{arith}
 use borrow.Author.Tests.{not-true, not-false}
 use Rattle.entry_table.specs.Names.{lengths}
-use Rattle.entry_table.specs.Carved.{carvedInfo, row}
-use Rattle.entry_table.proofs.NameLaws.{Passing, passing-start, passing-row, passing-outside, passing-end}
+use Rattle.entry_table.specs.Carved.{carvedInfo}
+use Rattle.entry_table.proofs.NameLaws.{Passing, passing-start, passing-row, passing-outside, passing-end, carved-infos}
 use Rattle.entry_table.proofs.carved.carved_inside.Statement.{statement}
 use Rattle.entry_table.proofs.carved.carved_inside.Tie as tie
 
@@ -24,7 +24,7 @@ is-inside-requires : tie.Need-is-inside-requires Inv-loop μ-loop
 is-inside-requires c κs = tt
 
 returns : tie.Need-returns Inv-loop μ-loop
-returns c = passing-outside (c .before .before .before .before .before .loop .inv) (c .before .before .before .before .loop-test .taken) (c .before .before .before .carved-info .ensures) (c .before .is-inside .ensures) (not-true _ (c .if1 .taken))
+returns c = carved-infos _ (c .before .before .before .before .before .before .before .args .entries .now) (passing-outside (c .before .before .before .before .before .loop .inv) (c .before .before .before .before .loop-test .taken) (c .before .before .before .carved-info .ensures) (c .before .is-inside .ensures) (not-true _ (c .if1 .taken)))
 
 add-i : tie.Need-add-i Inv-loop μ-loop
 add-i c = omega arith
@@ -36,7 +36,7 @@ loop-again : tie.Need-loop-again Inv-loop μ-loop
 loop-again c = passing-row (c .before .before .before .before .before .loop .inv) (c .before .before .before .before .loop-test .taken) (c .before .before .before .carved-info .ensures) (c .before .is-inside .ensures) (not-false _ (c .if1 .left))
 
 returns-2 : tie.Need-returns-2 Inv-loop μ-loop
-returns-2 c = passing-end (c .before .loop .inv) (c .loop-test .left)
+returns-2 c = carved-infos _ (c .before .before .before .args .entries .now) (passing-end (c .before .loop .inv) (c .loop-test .left))
 
 pub carved-inside-spec : {M : Type 1} → statement M
 carved-inside-spec =
