@@ -41,13 +41,16 @@ module _ (s : List ℕ) (j : ℕ) (k : EntryKey) (e : EntryInfo) (room : j * str
   first : getD (putAt s j k e) (j * stride) 0 ≡ k .entry
   first = rw add-zero at (word 0 (omega arith))
 
+  last : getD (putAt s j k e) (j * stride + 2 + 1) 0 ≡ e .parent .sequence
+  last = let m : j * stride + 2 + 1 ≡ j * stride + 3 = omega arith in rw m (word 3 (omega arith))
+
   pub put-key : keyAt (putAt s j k e) j ≡ k
   put-key = λ z. record { entry = first z; sequence = word 1 (omega arith) z }
 
   pub put-info : infoAt (putAt s j k e) j ≡ e
   put-info =
       λ z. record {
-        parent = record { entry = word 2 (omega arith) z; sequence = word 3 (omega arith) z };
+        parent = record { entry = word 2 (omega arith) z; sequence = last z };
         name = record { source = word 4 (omega arith) z; offset = word 5 (omega arith) z; length = word 6 (omega arith) z };
       }
 
@@ -68,6 +71,6 @@ module _ (s : List ℕ) (j : ℕ) (k : EntryKey) (e : EntryInfo) (i : ℕ) (othe
       let w : (r : ℕ) → r < stride → getD (putAt s j k e) (i * stride + r) 0 ≡ getD s (i * stride + r) 0 =
       λ r h. word-other (i * stride + r) (omega arith) (omega arith) in
       λ z. record {
-        parent = record { entry = w 2 (omega arith) z; sequence = w 3 (omega arith) z };
+        parent = record { entry = w 2 (omega arith) z; sequence = word-other (i * stride + 2 + 1) (omega arith) (omega arith) z };
         name = record { source = w 4 (omega arith) z; offset = w 5 (omega arith) z; length = w 6 (omega arith) z };
       }

@@ -1,6 +1,6 @@
 -- The slots of a table in a flat list of words: seven words a slot.
 use Prim.Native.Nat.{ℕ, zero, suc, _+_, _*_, _/_}
-use mathlib.Core.List.{List, [], _∷_}
+use mathlib.Core.List.{List, [], _∷_, _++_}
 use mathlib.Core.Bool.{Bool, cond, _&&_}
 use lib.ListN.{length, getD}
 use lib.Seq.{sets}
@@ -22,22 +22,29 @@ slotsIn s = length s / stride
 unfoldable pub sameKey : EntryKey → EntryKey → Bool
 sameKey a b = eqb (a .entry) (b .entry) && eqb (a .sequence) (b .sequence)
 
+-- the key that stands from word p on
+abbrev pub keyIn : List ℕ → ℕ → EntryKey
+keyIn s p = record { entry = getD s p 0; sequence = getD s (p + 1) 0 }
+
 -- the key in slot i
 abbrev pub keyAt : List ℕ → ℕ → EntryKey
-keyAt s i = record { entry = getD s (i * stride) 0; sequence = getD s (i * stride + 1) 0 }
+keyAt s i = keyIn s (i * stride)
 
 -- what slot i says of its key: the parent, and where the name lies
 abbrev pub infoAt : List ℕ → ℕ → EntryInfo
 infoAt s i =
+    let at = i * stride in
     record {
-      parent = record { entry = getD s (i * stride + 2) 0; sequence = getD s (i * stride + 3) 0 };
-      name = record { source = getD s (i * stride + 4) 0; offset = getD s (i * stride + 5) 0; length = getD s (i * stride + 6) 0 };
+      parent = keyIn s (at + 2);
+      name = record { source = getD s (at + 4) 0; offset = getD s (at + 5) 0; length = getD s (at + 6) 0 };
     }
 
--- the words of an entry
+-- the words of a key, and of a slot
+abbrev pub keyWords : EntryKey → List ℕ
+keyWords k = k .entry ∷ k .sequence ∷ []
+
 abbrev pub entryWords : EntryKey → EntryInfo → List ℕ
-entryWords k e =
-    k .entry ∷ k .sequence ∷ e .parent .entry ∷ e .parent .sequence ∷ e .name .source ∷ e .name .offset ∷ e .name .length ∷ []
+entryWords k e = keyWords k ++ keyWords (e .parent) ++ (e .name .source ∷ e .name .offset ∷ e .name .length ∷ [])
 
 -- the words with an entry in slot i
 unfoldable pub putAt : List ℕ → ℕ → EntryKey → EntryInfo → List ℕ

@@ -3,7 +3,7 @@ ghost use mathlib.Core.Path.{_≡_};
 ghost use mathlib.Core.List.{[], _∷_};
 ghost use Prim.Native.Nat.{_+_, _*_, _≤_};
 ghost use lib.ListN.{length};
-ghost use Rattle.entry_table.specs.Slots.{stride, slotsIn, sameKey, keyAt, infoAt, putAt};
+ghost use Rattle.entry_table.specs.Slots.{stride, slotsIn, sameKey, keyIn, keyAt, infoAt, putAt};
 ghost use Rattle.entry_table.specs.Table.{table, find, addition};
 ghost use Rattle.entry_table.specs.Storing.{adding, usedAfter, wordsAfter, outcome};
 use crate::EntryInfo;
@@ -32,16 +32,23 @@ pub fn same_key(a: EntryKey, b: EntryKey) -> bool
     false
 }
 
+// The key that stands from word p on.
+fn key_in(words: &[u64], p: usize) -> EntryKey
+    requires { ⌜ p + 2 ≤ length (now words) ⌝ }
+    ensures { λ r. ⌜ r ≡ keyIn (now (words .entry)) p ⌝ }
+{
+    EntryKey {
+        entry: words[p],
+        sequence: words[p + 1],
+    }
+}
+
 // The key in slot i.
 pub fn key_at(slots: &[u64], i: usize) -> EntryKey
     requires { ⌜ i * stride + stride ≤ length (now slots) ⌝ }
     ensures { λ r. ⌜ r ≡ keyAt (now (slots .entry)) i ⌝ }
 {
-    let at = i * STRIDE;
-    EntryKey {
-        entry: slots[at],
-        sequence: slots[at + 1],
-    }
+    key_in(slots, i * STRIDE)
 }
 
 // What slot i says of its key.
@@ -50,10 +57,7 @@ pub fn info_at(slots: &[u64], i: usize) -> EntryInfo
     ensures { λ r. ⌜ r ≡ infoAt (now (slots .entry)) i ⌝ }
 {
     let at = i * STRIDE;
-    let parent = EntryKey {
-        entry: slots[at + 2],
-        sequence: slots[at + 3],
-    };
+    let parent = key_in(slots, at + 2);
     let name = NamePlace {
         source: slots[at + 4],
         offset: slots[at + 5],
