@@ -6,3 +6,4 @@ pub mod TableLaws
 pub mod StoringLaws
 pub mod CountLaws
 pub mod SeedLaws
+pub mod CallLaws

@@ -41,6 +41,15 @@ storing ls t xs =
 abbrev pub inserting : Lengths → Table → EntryKey → EntryInfo → Bool → Outcome Table
 inserting ls t k e replace = storing ls t (addition k e replace ∷ [])
 
+-- each of these by a call of its own, in turn, up to the first that is refused
+abbrev pub andThen : {A B : Type 0} → Outcome A → (A → Outcome B) → Outcome B
+andThen (refused n) f = refused n
+andThen (answered x) f = f x
+
+unfoldable pub inTurn : Lengths → Table → List Addition → Outcome Table
+inTurn ls t [] = answered t
+inTurn ls t (x ∷ xs) = andThen (storing ls t (x ∷ [])) (λ u. inTurn ls u xs)
+
 -- what a call answers: the used slots, or a refusal
 abbrev pub usedAfter : Outcome Table → Outcome ℕ
 usedAfter = mapOutcome (λ (t : Table). t .used)

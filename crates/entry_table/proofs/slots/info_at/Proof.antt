@@ -1,3 +1,4 @@
+-- The words are those of the slot.
 use borrow.Author.Needs.{needs}
 use Rattle.entry_table.proofs.slots.info_at.Statement.{statement}
 use Rattle.entry_table.proofs.slots.info_at.Tie as tie
