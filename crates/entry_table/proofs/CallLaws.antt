@@ -3,7 +3,7 @@
 use Prim.Native.Nat.{ℕ, _+_, _≤_, _<_}
 use mathlib.Core.Path.{_≡_, refl, ap, sym, _∙_}
 use mathlib.Core.List.{List, [], _∷_}
-use mathlib.Core.Bool.{Bool, true, false, cond, not, _&&_, _||_, true≢false}
+use mathlib.Core.Bool.{Bool, true, false, cond, not, _&&_, _||_}
 use native.Mathlib.Omega.{arith}
 use borrow.Author.Tests.{ltb-true, ltb-false, not-false}
 use lib.ListN.{length}
@@ -17,6 +17,7 @@ use Rattle.entry_table.specs.Table.{Table, known, Addition, addition, ad
 use Rattle.entry_table.specs.Storing.{newKeys, keysOf, infosOf, adding, storing, inserting, andThen, inTurn}
 use Rattle.entry_table.specs.declared.EntryKey.{EntryKey}
 use Rattle.entry_table.specs.declared.EntryInfo.{EntryInfo}
+use Rattle.entry_table.proofs.TestLaws.{and-left, and-right}
 use Rattle.entry_table.proofs.StoringLaws.{adding-one, stored-inside}
 use Rattle.entry_table.proofs.TableLaws.{used-added, length-added, known-added}
 use Rattle.entry_table.proofs.CountLaws.{new-same, new-first, new-none, adding-room, Adding, adding-start, adding-slot, adding-next}
@@ -47,12 +48,12 @@ module _ (ls : Lengths) (t : Table) (xs : List Addition) where
       (λ fits. cond-cases (λ (o : Outcome Table). o ≡ answered u → Accepted ls t xs u) (not (allInside ls (infosOf xs))) (λ y e. never e)
       (λ places. cond-cases (λ (o : Outcome Table). o ≡ answered u → Accepted ls t xs u) (ltb (slotsIn (t .words)) (t .used + newKeys (known t) (keysOf xs))) (λ y e. never e)
       (λ room e.
-        record {
-          fits = ltb-false _ _ fits;
-          places = not-false _ places;
-          room = ltb-false _ _ room;
-          leaves = cc;
-        })))
+      record {
+        fits = ltb-false _ _ fits;
+        places = not-false _ places;
+        room = ltb-false _ _ room;
+        leaves = cc;
+      })))
 
 -- an insertion says 6 only where its key is new and every slot is used
 pub record Full (t : Table) (k : EntryKey) : Type 0 where
@@ -79,35 +80,26 @@ inserted-full ls t k info replace =
         go true x true y e = let h : slotsIn (t .words) < t .used + 0 = ltb-true _ _ (rw x at y) in absurd (omega arith)
         go false x true y e = let h : slotsIn (t .words) < t .used + 1 = ltb-true _ _ (rw x at y) in record { new = x; all = omega arith }
 
--- both tests of an `&&` that holds hold
-and-left : (a b : Bool) → (a && b) ≡ true → a ≡ true
-and-left true b e = refl
-and-left false b e = e
-
-and-right : (a b : Bool) → (a && b) ≡ true → b ≡ true
-and-right true b e = e
-and-right false b e = absurd (true≢false (sym e))
-
--- storing all of a list, where it goes ahead, is storing each entry by a call of its own, in turn
-pub accepted-in-turn : (ls : Lengths) (t : Table) (xs : List Addition) → allInside ls (infosOf xs) ≡ true → t .used + newKeys (known t) (keysOf xs) ≤ slotsIn (t .words)
+-- where all of a list can be stored, so can each entry by a call of its own, in turn
+accepted-in-turn : (ls : Lengths) (t : Table) (xs : List Addition) → allInside ls (infosOf xs) ≡ true → t .used + newKeys (known t) (keysOf xs) ≤ slotsIn (t .words)
     → inTurn ls t xs ≡ answered (addAll t xs)
 unfolding inTurn addAll allInside
 accepted-in-turn ls t [] places room = refl
 accepted-in-turn ls t (x ∷ xs) places room =
     let w : Adding t t (x ∷ xs) (x ∷ xs) = adding-start t (x ∷ xs) room in
     let one : storing ls t (x ∷ []) ≡ answered (add t x) =
-        accepted-stored ls t (x ∷ [])
-        record {
-          fits = omega arith;
-          places = rw (and-left (inside ls (x .info .name)) (allInside ls (infosOf xs)) places);
-          room = omega (arith, adding-slot w refl, new-first (known t) (x .key) [], new-none (λ j. known t j || sameKey (x .key) j));
-          leaves = refl;
-        } in
+    accepted-stored ls t (x ∷ [])
+    record {
+      fits = omega arith;
+      places = rw (and-left (inside ls (x .info .name)) (allInside ls (infosOf xs)) places);
+      room = omega (arith, adding-slot w refl, new-first (known t) (x .key) [], new-none (λ j. known t j || sameKey (x .key) j));
+      leaves = refl;
+    } in
     rw one
     (accepted-in-turn ls (add t x) xs (and-right (inside ls (x .info .name)) (allInside ls (infosOf xs)) places) (adding-next w refl .room))
 
 -- and where each call in turn goes ahead, so does storing all at once
-pub in-turn-accepted : (ls : Lengths) (t u : Table) (xs : List Addition) → inTurn ls t xs ≡ answered u → t .used ≤ slotsIn (t .words) → Accepted ls t xs u
+in-turn-accepted : (ls : Lengths) (t u : Table) (xs : List Addition) → inTurn ls t xs ≡ answered u → t .used ≤ slotsIn (t .words) → Accepted ls t xs u
 unfolding inTurn addAll allInside
 in-turn-accepted ls t u [] e fits = record { fits = fits; places = refl; room = omega (arith, new-none (known t)); leaves = cc }
 in-turn-accepted ls t u (x ∷ xs) e fits = go (storing ls t (x ∷ [])) refl (in-turn-accepted ls (add t x) u xs) e
@@ -120,13 +112,14 @@ in-turn-accepted ls t u (x ∷ xs) e fits = go (storing ls t (x ∷ [])) refl (i
           fits = fits;
           places = rw (and-left (inside ls (x .info .name)) true (one .places)) (w .places);
           room =
-              omega
-              (arith,
-              w .room,
-              used-added t x slot,
-              length-added t x slot,
-              new-first (known t) (x .key) (keysOf xs),
-              new-same (known (add t x)) (λ j. known t j || sameKey (x .key) j) (known-added t x slot) (keysOf xs));
+              omega (
+                arith,
+                w .room,
+                used-added t x slot,
+                length-added t x slot,
+                new-first (known t) (x .key) (keysOf xs),
+                new-same (known (add t x)) (λ j. known t j || sameKey (x .key) j) (known-added t x slot) (keysOf xs),
+              );
           leaves = w .leaves;
         }
 
@@ -137,3 +130,10 @@ in-turn-accepted ls t u (x ∷ xs) e fits = go (storing ls t (x ∷ [])) refl (i
         let w : Accepted ls t (x ∷ []) v = stored-accepted ls t (x ∷ []) q in
         let l : v ≡ add t x = w .leaves in
         after (rw l at w) (ih (rw l at e))
+
+-- seeding is the insertion if absent of each entry in turn: one goes ahead exactly if the other does, and they leave the same table
+pub stored-in-turn : (ls : Lengths) (t : Table) (xs : List Addition) {u : Table} → storing ls t xs ≡ answered u → inTurn ls t xs ≡ answered u
+stored-in-turn ls t xs e = let w = stored-accepted ls t xs e in accepted-in-turn ls t xs (w .places) (w .room) ∙ ap answered (sym (w .leaves))
+
+pub in-turn-stored : (ls : Lengths) (t : Table) (xs : List Addition) {u : Table} → t .used ≤ slotsIn (t .words) → inTurn ls t xs ≡ answered u → storing ls t xs ≡ answered u
+in-turn-stored ls t xs {u} fits e = accepted-stored ls t xs (in-turn-accepted ls t u xs e fits)

@@ -1,16 +1,17 @@
 -- The slot of a key: the lowest one that has it. Assumes nothing.
 use Prim.Native.Nat.{ℕ, zero, suc, _+_, _-_, _≤_, _<_}
-use mathlib.Core.Path.{_≡_, refl, ap, sym, _∙_, subst}
+use mathlib.Core.Path.{_≡_, refl, ap, sym, _∙_}
 use mathlib.Core.List.{List}
-use mathlib.Core.Bool.{Bool, true, false, cond, _&&_, false≢true}
+use mathlib.Core.Bool.{Bool, true, false, cond, _&&_}
 use native.Mathlib.Omega.{arith}
 use native.Mathlib.Nat.{sub-zero, add-zero}
-use borrow.Author.Tests.{eq-eqb, ne-eqb, eqb-true, eqb-false}
+use borrow.Author.Tests.{eq-eqb, ne-eqb, eqb-true}
 use lib.Dec.{eqb}
 use Rattle.entry_table.specs.Slots.{sameKey, keyAt, findFrom}
 use Rattle.entry_table.specs.declared.EntryKey.{EntryKey}
 use Rattle.entry_table.specs.declared.slots.Found.{Found}
 use Rattle.entry_table.specs.declared.slots.Found.the-variants.{At, Nothing}
+use Rattle.entry_table.proofs.TestLaws.{and-left, and-right, from-here}
 
 -- two keys compared: the entries, and then the sequences
 pub same-entry : (a b : EntryKey) → a .entry ≡ b .entry → eqb (a .sequence) (b .sequence) ≡ sameKey a b
@@ -28,14 +29,6 @@ same-equal a b e =
     let p : a .entry ≡ b .entry = eqb-true _ _ (and-left (eqb (a .entry) (b .entry)) (eqb (a .sequence) (b .sequence)) e) in
     let q : a .sequence ≡ b .sequence = eqb-true _ _ (and-right (eqb (a .entry) (b .entry)) (eqb (a .sequence) (b .sequence)) e) in
     λ z. record { entry = p z; sequence = q z }
-  where
-    and-left : (x y : Bool) → (x && y) ≡ true → x ≡ true
-    and-left true y e = refl
-    and-left false y e = e
-
-    and-right : (x y : Bool) → (x && y) ≡ true → y ≡ true
-    and-right true y e = e
-    and-right false y e = absurd (false≢true e)
 
 pub same-self : (a : EntryKey) → sameKey a a ≡ true
 unfolding sameKey
@@ -67,14 +60,6 @@ module _ {s : List ℕ} {k : EntryKey} {i n : ℕ} (w : Finding s k i n) where
   finding-end h =
       let m : n - i ≡ 0 = omega arith in
       sym (w .rest ∙ rw (m, findFrom))
-
--- what holds at i and after i holds from i on
-from-here : (P : ℕ → Type 0) (i m : ℕ) → P i → (i + 1 ≤ m → P m) → i ≤ m → P m
-from-here P i m here after h = go (eqb i m) refl
-  where
-    go : (b : Bool) → eqb i m ≡ b → P m
-    go true e = subst P (eqb-true i m e) here
-    go false e = let other : i ≡ m → ⊥ = eqb-false i m e in after (omega arith)
 
 -- slot j is the lowest of the n from i on that has the key
 pub record Lowest (s : List ℕ) (k : EntryKey) (i n j : ℕ) : Type 0 where

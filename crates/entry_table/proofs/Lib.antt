@@ -1,3 +1,4 @@
+pub mod TestLaws
 pub mod RowLaws
 pub mod NameLaws
 pub mod FindLaws
@@ -7,3 +8,4 @@ pub mod StoringLaws
 pub mod CountLaws
 pub mod SeedLaws
 pub mod CallLaws
+pub mod Examples

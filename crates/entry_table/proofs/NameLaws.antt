@@ -1,11 +1,11 @@
 -- The test of a name's place, and of all names' places, by its ways out. Assumes nothing.
-use Prim.Native.Nat.{ℕ, _+_, _-_, _/_, _≤_, _<_}
+use Prim.Native.Nat.{ℕ, zero, suc, _+_, _-_, _/_, _≤_, _<_}
 use mathlib.Core.Path.{_≡_, refl, ap, sym, _∙_}
 use mathlib.Core.List.{List, [], _∷_}
 use mathlib.Core.Bool.{Bool, true, false, _&&_, and-true}
 use native.Mathlib.Omega.{arith}
 use native.Mathlib.Nat.{sub-zero}
-use borrow.Author.Tests.{leb-true, leb-false, le-leb, lt-leb}
+use borrow.Author.Tests.{lt-leb}
 use lib.Dec.{leb}
 use lib.ListN.{length}
 use Rattle.entry_table.specs.Names.{Lengths, lengthOf, inside, allInside}
@@ -14,15 +14,8 @@ use Rattle.entry_table.specs.Storing.{infosOf}
 use Rattle.entry_table.specs.Carved.{row, carvedAt, carvedInfo, carvedIn}
 use Rattle.entry_table.specs.declared.NamePlace.{NamePlace}
 use Rattle.entry_table.specs.declared.EntryInfo.{EntryInfo}
+use Rattle.entry_table.proofs.TestLaws.{and-left, and-right, from-here, leb-sub}
 use Rattle.entry_table.proofs.RowLaws.{rows-next, rows-end, map-rows}
-
--- a test against what is left, and against the whole
-pub leb-sub : (a b e : ℕ) → b ≤ e → leb a (e - b) ≡ leb (a + b) e
-leb-sub a b e h = go (leb a (e - b)) refl
-  where
-    go : (x : Bool) → leb a (e - b) ≡ x → leb a (e - b) ≡ leb (a + b) e
-    go true x = let l : a ≤ e - b = leb-true _ _ x in x ∙ sym (le-leb (a + b) e (omega arith))
-    go false x = let l : e - b < a = leb-false _ _ x in x ∙ sym (lt-leb (a + b) e (omega arith))
 
 module _ (ls : Lengths) (p : NamePlace) {end : ℕ} (e : end ≡ lengthOf ls (p .source)) where
   pub inside-long : end < p .length → false ≡ inside ls p
@@ -55,6 +48,15 @@ module _ {ls : Lengths} {f : ℕ → EntryInfo} {i n : ℕ} (w : Passing ls f i 
   pub passing-end : n ≤ i → true ≡ allInside ls (rows f 0 n)
   unfolding allInside
   passing-end h = sym (w .rest ∙ ap (allInside ls) (rows-end f i n h))
+
+-- where all are inside, each is
+pub all-inside-at : (ls : Lengths) (f : ℕ → EntryInfo) (i n m : ℕ) → allInside ls (rows f i n) ≡ true → i ≤ m → m < i + n → inside ls (f m .name) ≡ true
+unfolding allInside rows
+all-inside-at ls f i zero m e x y = absurd (omega arith)
+all-inside-at ls f i (suc n) m e x y =
+    let first : inside ls (f i .name) ≡ true = and-left (inside ls (f i .name)) (allInside ls (rows f (i + 1) n)) e in
+    let rest : allInside ls (rows f (i + 1) n) ≡ true = and-right (inside ls (f i .name)) (allInside ls (rows f (i + 1) n)) e in
+    from-here (λ q. inside ls (f q .name) ≡ true) i m first (λ l. all-inside-at ls f (i + 1) n m rest l (omega arith)) x
 
 -- what is shown of the rows of a carved list is shown of its additions
 pub carved-infos : (ls : Lengths) (es : List ℕ) {b : Bool} → b ≡ allInside ls (rows (carvedInfo es) 0 (length es / row)) → b ≡ allInside ls (infosOf (carvedIn es))

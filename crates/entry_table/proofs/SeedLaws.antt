@@ -19,7 +19,7 @@ use Rattle.entry_table.specs.declared.EntryInfo.{EntryInfo}
 use Rattle.entry_table.specs.declared.slots.Found.{Found}
 use Rattle.entry_table.specs.declared.slots.Found.the-variants.{At, Nothing}
 use Rattle.entry_table.proofs.RowLaws.{rows-next, rows-end, map-rows, length-rows}
-use Rattle.entry_table.proofs.NameLaws.{leb-sub}
+use Rattle.entry_table.proofs.TestLaws.{leb-sub}
 use Rattle.entry_table.proofs.CountLaws.{new-same, new-at-most, new-first, new-none, Adding, adding-start, adding-slot, adding-next, adding-end, adding-room, added-used, added-refused}
 
 -- the carved entries from i on, and how many keys of them are new
