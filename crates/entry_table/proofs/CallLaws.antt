@@ -14,7 +14,8 @@ use Rattle.walk.proofs.ChoiceLaws.{cond-cases}
 use Rattle.entry_table.specs.Names.{Lengths, lengthsOf, inside, allInside}
 use Rattle.entry_table.specs.Slots.{slotsIn, sameKey}
 use Rattle.entry_table.specs.Table.{Table, known, Addition, addition, add, addAll}
-use Rattle.entry_table.specs.Storing.{newKeys, keysOf, infosOf, adding, storing, inserting, andThen, inTurn}
+use Rattle.entry_table.specs.Storing.{newKeys, keysOf, infosOf, adding, storing, inserting}
+use Rattle.entry_table.specs.InTurn.{andThen, inTurn}
 use Rattle.entry_table.specs.declared.EntryKey.{EntryKey}
 use Rattle.entry_table.specs.declared.EntryInfo.{EntryInfo}
 use Rattle.entry_table.proofs.TestLaws.{and-left, and-right}

@@ -3,3 +3,4 @@ pub mod Slots
 pub mod Table
 pub mod Storing
 pub mod Carved
+pub mod InTurn

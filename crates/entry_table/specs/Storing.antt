@@ -1,4 +1,4 @@
--- The calls that store entries: how many keys are new, the refusals in their order, and what is left in the lent slots.
+-- The calls that store entries: how many keys are new, the refusals in their order, and what the lent words hold after them.
 use Prim.Native.Nat.{ℕ, _+_}
 use mathlib.Core.List.{List, [], _∷_, map}
 use mathlib.Core.Bool.{Bool, cond, not, _||_}
@@ -13,7 +13,7 @@ use Rattle.entry_table.specs.declared.EntryInfo.{EntryInfo}
 use Rattle.entry_table.specs.declared.Stored.{Stored}
 use Rattle.entry_table.specs.declared.Stored.the-variants.{Used, Refused}
 
--- how many different keys of a list are new: a key is known once it has come
+-- how many different keys of a list are new: neither known before nor earlier in the list
 unfoldable pub newKeys : (EntryKey → Bool) → List EntryKey → ℕ
 newKeys isKnown [] = 0
 newKeys isKnown (k ∷ ks) = cond (isKnown k) 0 1 + newKeys (λ j. isKnown j || sameKey k j) ks
@@ -24,13 +24,13 @@ keysOf xs = map (λ (a : Addition). a .key) xs
 abbrev pub infosOf : List Addition → List EntryInfo
 infosOf xs = map (λ (a : Addition). a .info) xs
 
--- additions where the used slots are no more than the slots: a full table refuses them all
+-- 6: the used slots plus the different keys to be added exceed the slots; else all are added in turn
 unfoldable pub adding : Table → List Addition → Outcome Table
 adding t xs =
     cond (ltb (slotsIn (t .words)) (t .used + newKeys (known t) (keysOf xs))) (refused tableFull)
     (answered (addAll t xs))
 
--- a call that stores: used slots above slots, a name outside its slice, no room for the new keys; else all are added in turn
+-- 9: the used slots are above the slots; 7: a name's place, of a known key too, is outside its slice; then 6
 unfoldable pub storing : Lengths → Table → List Addition → Outcome Table
 storing ls t xs =
     cond (ltb (slotsIn (t .words)) (t .used)) (refused badState)
@@ -40,15 +40,6 @@ storing ls t xs =
 -- insert replaces a known entry, and insert if absent does not
 abbrev pub inserting : Lengths → Table → EntryKey → EntryInfo → Bool → Outcome Table
 inserting ls t k e replace = storing ls t (addition k e replace ∷ [])
-
--- each of these by a call of its own, in turn, up to the first that is refused
-abbrev pub andThen : {A B : Type 0} → Outcome A → (A → Outcome B) → Outcome B
-andThen (refused n) f = refused n
-andThen (answered x) f = f x
-
-unfoldable pub inTurn : Lengths → Table → List Addition → Outcome Table
-inTurn ls t [] = answered t
-inTurn ls t (x ∷ xs) = andThen (storing ls t (x ∷ [])) (λ u. inTurn ls u xs)
 
 -- what a call answers: the used slots, or a refusal
 abbrev pub usedAfter : Outcome Table → Outcome ℕ
