@@ -21,7 +21,8 @@ use Rattle.entry_table.specs.declared.EntryInfo.{EntryInfo}
 use Rattle.entry_table.proofs.TestLaws.{and-left, and-right}
 use Rattle.entry_table.proofs.StoringLaws.{adding-one, stored-inside}
 use Rattle.entry_table.proofs.TableLaws.{used-added, length-added, known-added}
-use Rattle.entry_table.proofs.CountLaws.{new-same, new-first, new-none, adding-room, Adding, adding-start, adding-slot, adding-next}
+use Rattle.entry_table.proofs.CountLaws.{new-same, new-first, new-none, adding-room, Adding, adding-start, adding-slot, adding-next, used-all}
+use Rattle.entry_table.proofs.KeptLaws.{Kept, all-kept}
 
 -- names decide nothing: over journals and images of equal lengths every call comes out the same, its table included
 pub names-decide-nothing : (journal journal′ image image′ : List ℕ) (t : Table) (xs : List Addition) → length journal′ ≡ length journal → length image′ ≡ length image
@@ -55,6 +56,17 @@ module _ (ls : Lengths) (t : Table) (xs : List Addition) where
         room = ltb-false _ _ room;
         leaves = cc;
       })))
+
+-- An accepted call takes a slot for each new key, so that the next call does not meet 9. Words after the used slots, and so those after
+-- the last whole slot, are left alone.
+pub accepted-used : {ls : Lengths} {t u : Table} {xs : List Addition} → Accepted ls t xs u → u .used ≡ t .used + newKeys (known t) (keysOf xs)
+accepted-used {ls} {t} {u} {xs} w = rw (w .leaves) (used-all t xs (w .room))
+
+pub accepted-keeps : {ls : Lengths} {t u : Table} {xs : List Addition} → Accepted ls t xs u → Kept t u
+accepted-keeps {ls} {t} {u} {xs} w = rw (w .leaves) (all-kept t xs)
+
+pub accepted-fits : {ls : Lengths} {t u : Table} {xs : List Addition} → Accepted ls t xs u → u .used ≤ slotsIn (u .words)
+accepted-fits w = omega (arith, accepted-used w, w .room, accepted-keeps w .long)
 
 -- an insertion says 6 only where its key is new and every slot is used
 pub record Full (t : Table) (k : EntryKey) : Type 0 where

@@ -7,5 +7,6 @@ pub mod TableLaws
 pub mod StoringLaws
 pub mod CountLaws
 pub mod SeedLaws
+pub mod KeptLaws
 pub mod CallLaws
 pub mod Examples

@@ -33,6 +33,11 @@ pub length-put : (s : List ℕ) (j : ℕ) (k : EntryKey) (e : EntryInfo) → len
 unfolding putAt
 length-put s j k e = length-sets s (j * stride) (entryWords k e)
 
+-- words after the slot are left alone
+pub put-after : (s : List ℕ) (j : ℕ) (k : EntryKey) (e : EntryInfo) (p : ℕ) → j * stride + stride ≤ p → getD (putAt s j k e) p 0 ≡ getD s p 0
+unfolding putAt
+put-after s j k e p h = sets-after (entryWords k e) s (j * stride) p h
+
 module _ (s : List ℕ) (j : ℕ) (k : EntryKey) (e : EntryInfo) (room : j * stride + stride ≤ length s) where
   word : (r : ℕ) → r < stride → getD (putAt s j k e) (j * stride + r) 0 ≡ getD (entryWords k e) r 0
   unfolding putAt

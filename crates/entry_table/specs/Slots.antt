@@ -14,7 +14,7 @@ use Rattle.entry_table.specs.declared.slots.Found.the-variants.{At, Noth
 abbrev pub stride : ℕ
 stride = 7
 
--- the whole slots in so many words
+-- how many whole slots the words make
 abbrev pub slotsIn : List ℕ → ℕ
 slotsIn s = length s / stride
 
@@ -39,7 +39,7 @@ infoAt s i =
       name = record { source = getD s (at + 4) 0; offset = getD s (at + 5) 0; length = getD s (at + 6) 0 };
     }
 
--- the words of a key, and of a slot
+-- the words of a key, and those of an entry: its key, its parent, its name's source, offset and length
 abbrev pub keyWords : EntryKey → List ℕ
 keyWords k = k .entry ∷ k .sequence ∷ []
 
@@ -55,7 +55,7 @@ unfoldable pub findFrom : List ℕ → EntryKey → ℕ → ℕ → Found
 findFrom s k i zero = Nothing
 findFrom s k i (suc n) = cond (sameKey (keyAt s i) k) (At i) (findFrom s k (i + 1) n)
 
--- f of n numbers, from i on
+-- what f gives for each of the n numbers from i on
 unfoldable pub rows : {A : Type 0} → (ℕ → A) → ℕ → ℕ → List A
 rows f i zero = []
 rows f i (suc n) = f i ∷ rows f (i + 1) n
