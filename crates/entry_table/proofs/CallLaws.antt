@@ -14,7 +14,7 @@ use Rattle.walk.proofs.ChoiceLaws.{cond-cases}
 use Rattle.entry_table.specs.Names.{Lengths, lengthsOf, inside, allInside}
 use Rattle.entry_table.specs.Slots.{slotsIn, sameKey}
 use Rattle.entry_table.specs.Table.{Table, known, Addition, addition, add, addAll}
-use Rattle.entry_table.specs.Storing.{newKeys, keysOf, infosOf, adding, storing, inserting}
+use Rattle.entry_table.specs.Storing.{newKeys, keysOf, namesOf, adding, storing, inserting}
 use Rattle.entry_table.specs.InTurn.{andThen, inTurn}
 use Rattle.entry_table.specs.declared.EntryKey.{EntryKey}
 use Rattle.entry_table.specs.declared.EntryInfo.{EntryInfo}
@@ -32,7 +32,7 @@ names-decide-nothing journal journal′ image image′ t xs e f = rw (e, f)
 -- what holds where a call goes ahead, and the table that it leaves
 pub record Accepted (ls : Lengths) (t : Table) (xs : List Addition) (u : Table) : Type 0 where
   pub fits : t .used ≤ slotsIn (t .words)
-  pub places : allInside ls (infosOf xs) ≡ true
+  pub places : allInside ls (namesOf xs) ≡ true
   pub room : t .used + newKeys (known t) (keysOf xs) ≤ slotsIn (t .words)
   pub leaves : u ≡ addAll t xs
 
@@ -47,7 +47,7 @@ module _ (ls : Lengths) (t : Table) (xs : List Addition) where
   unfolding storing adding
   stored-accepted {u} =
       cond-cases (λ (o : Outcome Table). o ≡ answered u → Accepted ls t xs u) (ltb (slotsIn (t .words)) (t .used)) (λ y e. never e)
-      (λ fits. cond-cases (λ (o : Outcome Table). o ≡ answered u → Accepted ls t xs u) (not (allInside ls (infosOf xs))) (λ y e. never e)
+      (λ fits. cond-cases (λ (o : Outcome Table). o ≡ answered u → Accepted ls t xs u) (not (allInside ls (namesOf xs))) (λ y e. never e)
       (λ places. cond-cases (λ (o : Outcome Table). o ≡ answered u → Accepted ls t xs u) (ltb (slotsIn (t .words)) (t .used + newKeys (known t) (keysOf xs))) (λ y e. never e)
       (λ room e.
       record {
@@ -77,7 +77,7 @@ pub inserted-full : (ls : Lengths) (t : Table) (k : EntryKey) (info : EntryInfo)
 unfolding storing
 inserted-full ls t k info replace =
     cond-cases (λ (o : Outcome Table). o ≡ refused tableFull → Full t k) (ltb (slotsIn (t .words)) (t .used)) (λ y e. other badState (λ z. omega arith) e)
-    (λ fits. cond-cases (λ (o : Outcome Table). o ≡ refused tableFull → Full t k) (not (allInside ls (infosOf (addition k info replace ∷ [])))) (λ y e. other nameOutside (λ z. omega arith) e)
+    (λ fits. cond-cases (λ (o : Outcome Table). o ≡ refused tableFull → Full t k) (not (allInside ls (namesOf (addition k info replace ∷ [])))) (λ y e. other nameOutside (λ z. omega arith) e)
     (λ places e. full (ltb-false _ _ fits) (sym (adding-one t (addition k info replace)) ∙ e)))
   where
     other : (n : ℕ) → (n ≡ tableFull → ⊥) → _≡_ {A = Outcome Table} (refused n) (refused tableFull) → Full t k
@@ -94,7 +94,7 @@ inserted-full ls t k info replace =
         go false x true y e = let h : slotsIn (t .words) < t .used + 1 = ltb-true _ _ (rw x at y) in record { new = x; all = omega arith }
 
 -- where all of a list can be stored, so can each entry by a call of its own, in turn
-accepted-in-turn : (ls : Lengths) (t : Table) (xs : List Addition) → allInside ls (infosOf xs) ≡ true → t .used + newKeys (known t) (keysOf xs) ≤ slotsIn (t .words)
+accepted-in-turn : (ls : Lengths) (t : Table) (xs : List Addition) → allInside ls (namesOf xs) ≡ true → t .used + newKeys (known t) (keysOf xs) ≤ slotsIn (t .words)
     → inTurn ls t xs ≡ answered (addAll t xs)
 unfolding inTurn addAll allInside
 accepted-in-turn ls t [] places room = refl
@@ -104,12 +104,12 @@ accepted-in-turn ls t (x ∷ xs) places room =
     accepted-stored ls t (x ∷ [])
     record {
       fits = omega arith;
-      places = rw (and-left (inside ls (x .info .name)) (allInside ls (infosOf xs)) places);
+      places = rw (and-left (inside ls (x .info .name)) (allInside ls (namesOf xs)) places);
       room = omega (arith, adding-slot w refl, new-first (known t) (x .key) [], new-none (λ j. known t j || sameKey (x .key) j));
       leaves = refl;
     } in
     rw one
-    (accepted-in-turn ls (add t x) xs (and-right (inside ls (x .info .name)) (allInside ls (infosOf xs)) places) (adding-next w refl .room))
+    (accepted-in-turn ls (add t x) xs (and-right (inside ls (x .info .name)) (allInside ls (namesOf xs)) places) (adding-next w refl .room))
 
 -- and where each call in turn goes ahead, so does storing all at once
 in-turn-accepted : (ls : Lengths) (t u : Table) (xs : List Addition) → inTurn ls t xs ≡ answered u → t .used ≤ slotsIn (t .words) → Accepted ls t xs u

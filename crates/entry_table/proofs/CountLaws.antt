@@ -85,12 +85,13 @@ unfolding addAll
 used-all t [] room = omega (arith, new-none (known t))
 used-all t (x ∷ xs) room =
     let w : Adding t t (x ∷ xs) (x ∷ xs) = adding-start t (x ∷ xs) room in
-    omega
-    (arith,
-    used-all (add t x) xs (adding-next w refl .room),
-    used-added t x (adding-slot w refl),
-    new-first (known t) (x .key) (keysOf xs),
-    new-same (known (add t x)) (λ j. known t j || sameKey (x .key) j) (known-added t x (adding-slot w refl)) (keysOf xs))
+    omega (
+      arith,
+      used-all (add t x) xs (adding-next w refl .room),
+      used-added t x (adding-slot w refl),
+      new-first (known t) (x .key) (keysOf xs),
+      new-same (known (add t x)) (λ j. known t j || sameKey (x .key) j) (known-added t x (adding-slot w refl)) (keysOf xs),
+    )
 
 pub adding-end : {t₀ t : Table} {todo all : List Addition} → Adding t₀ t todo all → todo ≡ [] → t ≡ addAll t₀ all
 unfolding addAll

@@ -13,7 +13,7 @@ use Rattle.walk.specs.Refusals.{badState, nameOutside, tableFull}
 use Rattle.entry_table.specs.Names.{Lengths, allInside}
 use Rattle.entry_table.specs.Slots.{slotsIn, putAt}
 use Rattle.entry_table.specs.Table.{Table, table, find, known, Addition, addFound, add, addAll}
-use Rattle.entry_table.specs.Storing.{newKeys, keysOf, infosOf, adding, storing, usedAfter, wordsAfter}
+use Rattle.entry_table.specs.Storing.{newKeys, keysOf, namesOf, adding, storing, usedAfter, wordsAfter}
 use Rattle.entry_table.specs.declared.slots.Found.{Found}
 use Rattle.entry_table.specs.declared.slots.Found.the-variants.{At, Nothing}
 
@@ -58,10 +58,10 @@ module _ (ls : Lengths) (t : Table) (xs : List Addition) where
   unfolding storing
   stored-bad-state h = rw (storing, lt-ltb _ _ h)
 
-  pub stored-outside : t .used ≤ slotsIn (t .words) → allInside ls (infosOf xs) ≡ false → storing ls t xs ≡ refused nameOutside
+  pub stored-outside : t .used ≤ slotsIn (t .words) → allInside ls (namesOf xs) ≡ false → storing ls t xs ≡ refused nameOutside
   unfolding storing
   stored-outside h e = rw (storing, le-ltb _ _ h, e)
 
-  pub stored-inside : t .used ≤ slotsIn (t .words) → allInside ls (infosOf xs) ≡ true → storing ls t xs ≡ adding t xs
+  pub stored-inside : t .used ≤ slotsIn (t .words) → allInside ls (namesOf xs) ≡ true → storing ls t xs ≡ adding t xs
   unfolding storing
   stored-inside h e = rw (storing, le-ltb _ _ h, e)
