@@ -11,7 +11,6 @@ pub mod names;
 pub mod slots;
 
 ghost use mathlib.Core.Path.{_≡_};
-ghost use mathlib.Core.List.{[], _∷_};
 ghost use mathlib.Core.Bool.{true, false};
 ghost use Rattle.entry_table.specs.Names.{lengths, lengthsOf};
 ghost use Rattle.entry_table.specs.Table.{table};
