@@ -9,6 +9,7 @@ use Rattle.usn_record.specs.Bytes.{le, leAt}
 use Rattle.usn_record.specs.Fields.{timestampOf, referenceOf, filenameOf}
 use Rattle.usn_record.specs.Record.{recordOf, parsed, listed, recordWords}
 use Rattle.walk.specs.Walk.{walk, from}
+use Rattle.walk.proofs.ChoiceLaws.{and-left, and-right}
 use Rattle.usn_journal.specs.Scan.{kindByVersion, kindOf, visit, scanned}
 use Rattle.usn_journal.specs.Outcome.{scan}
 use Rattle.usn_carver.specs.Carve.{judged, visitAs, carving}
@@ -17,28 +18,20 @@ use Rattle.usn_reader.specs.Journal.{stepAt, steps, toCome}
 use Rattle.known.specs.Case.{Case, same, right}
 use Rattle.known.specs.Cases.{cases}
 
-both-left : (a b : Bool) → (a && b) ≡ true → a ≡ true
-both-left true b e = refl
-both-left false b e = e
-
-both-right : (a b : Bool) → (a && b) ≡ true → b ≡ true
-both-right true b e = e
-both-right false b e = absurd (true≢false (sym e))
-
 same-eq : (xs ys : List ℕ) → same xs ys ≡ true → xs ≡ ys
 same-eq [] [] e = refl
 same-eq [] (y ∷ ys) e = absurd (true≢false (sym e))
 same-eq (x ∷ xs) [] e = absurd (true≢false (sym e))
 same-eq (x ∷ xs) (y ∷ ys) e =
-    let h : x ≡ y = eqb-true x y (both-left (eqb x y) (same xs ys) e) in
-    let t : xs ≡ ys = same-eq xs ys (both-right (eqb x y) (same xs ys) e) in
+    let h : x ≡ y = eqb-true x y (and-left (eqb x y) (same xs ys) e) in
+    let t : xs ≡ ys = same-eq xs ys (and-right (eqb x y) (same xs ys) e) in
     cc
 
 -- each case of a table that passes the test is as known
 as-known : (cs : List Case) → right cs ≡ true → (c : Case) → List·Memᴰ c cs → c .says ≡ c .known
 as-known [] e c m = absurd (List·Memᴰ·not-nil m)
-as-known (x ∷ cs) e c (List·Memᴰ·head q) = rw q (same-eq (x .says) (x .known) (both-left (same (x .says) (x .known)) (right cs) e))
-as-known (x ∷ cs) e c (List·Memᴰ·tail m) = as-known cs (both-right (same (x .says) (x .known)) (right cs) e) c m
+as-known (x ∷ cs) e c (List·Memᴰ·head q) = rw q (same-eq (x .says) (x .known) (and-left (same (x .says) (x .known)) (right cs) e))
+as-known (x ∷ cs) e c (List·Memᴰ·tail m) = as-known cs (and-right (same (x .says) (x .known)) (right cs) e) c m
 
 computed : right cases ≡ true
 unfolding le leAt timestampOf referenceOf filenameOf recordOf parsed listed recordWords walk from kindByVersion kindOf visit scanned scan judged visitAs carverVisit carving stepAt steps toCome

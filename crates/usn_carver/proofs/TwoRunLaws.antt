@@ -8,7 +8,7 @@ use native.Mathlib.Omega.{arith}
 use lib.ListN.{length}
 use Rattle.walk.specs.Agree.{Agree}
 use Rattle.walk.specs.Masked.{Apart, Masked, placesOf}
-use Rattle.walk.specs.Outcome.{Outcome, refused, answered}
+use Rattle.walk.specs.Outcome.{Outcome, refused, answered, listedBy}
 use Rattle.walk.specs.Places.{round8}
 use Rattle.walk.specs.Walk.{Visit, go, after, walk, from}
 use Rattle.walk.specs.declared.Place.{Place}
@@ -20,7 +20,7 @@ use Rattle.usn_record.proofs.NameLaws.{fixed-low, fixed-high, fixed-v2, listed-
 use Rattle.usn_carver.specs.Settings.{Settings}
 use Rattle.usn_carver.specs.Events.{Reason, Event, rejected, carved, records}
 use Rattle.usn_carver.specs.Carve.{visit, events, carving, carvingList, recordsIn}
-use Rattle.usn_carver.specs.Masking.{nameOf, NoOverlap, IfAnswered, listIfAnswered, carvedRecords, carvedNames}
+use Rattle.usn_carver.specs.Masking.{nameOf, NoOverlap, IfAnswered, carvedRecords, carvedNames}
 use Rattle.usn_carver.specs.declared.CarvingStats.{CarvingStats}
 use Rattle.usn_carver.proofs.VisitLaws.{Candidate, Shape, stops, passes, rejects, carves, visit-shape}
 use Rattle.usn_carver.proofs.RunLaws.{visit-forward}
@@ -150,7 +150,7 @@ pub record SameCarving (st : Settings) (s t l : List ℕ) : Type 0 where
 
 module _ (st : Settings) (s t l : List ℕ) where
   same-carving : (x : Outcome CarvingStats) → carving st s (length l) ≡ x → IfAnswered x (NoOverlap (events st s))
-      → Masked s t (placesOf (λ p. nameAt s (p .offset)) (listIfAnswered x (recordsIn st s))) → SameCarving st s t l
+      → Masked s t (placesOf (λ p. nameAt s (p .offset)) (listedBy (λ _. recordsIn st s) x)) → SameCarving st s t l
   same-carving (refused n) e g m =
       rw (masked-none s t m) (record { outcome = refl; list = refl; places = refl; parsed = rw e tt })
   same-carving (answered a) e g m =

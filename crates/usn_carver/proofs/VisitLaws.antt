@@ -3,7 +3,7 @@ use Prim.Native.Nat.{ℕ, _+_, _≤_, _<_}
 use mathlib.Core.Path.{_≡_, refl, sym, _∙_}
 use mathlib.Core.Logic.{_⊎_, inl, inr}
 use mathlib.Core.List.{List, [], _∷_}
-use mathlib.Core.Bool.{Bool, true, false, _&&_, false≢true}
+use mathlib.Core.Bool.{Bool, true, false, _&&_}
 use lib.ListN.{length}
 use lib.Dec.{ltb, leb, eqb}
 use mir.Syntax.{w64}
@@ -11,7 +11,7 @@ use mir.Val.{toZ}
 use borrow.Author.Tests.{lt-ltb, le-ltb, ltb-true, ltb-false, le-leb, lt-leb, leb-true, ne-eqb, eqb-true}
 use Rattle.walk.specs.Places.{round8}
 use Rattle.walk.specs.Walk.{Visit, stop, go}
-use Rattle.walk.proofs.ChoiceLaws.{cond-cases}
+use Rattle.walk.proofs.ChoiceLaws.{cond-cases, and-left, and-right}
 use Rattle.usn_record.specs.Bytes.{leAt}
 use Rattle.usn_record.specs.Layout.{Layout, v2, v3}
 use Rattle.usn_record.specs.Names.{fixedOf}
@@ -91,14 +91,6 @@ pub data Shape (st : Settings) (s : List ℕ) (o : ℕ) : Visit Event → Type 0
   passes : o + 8 ≤ length s → Shape st s o (go [] (o + 8))
   rejects : (why : Reason) (v n : ℕ) → o + 8 ≤ length s → Candidate st s o v n → Shape st s o (go (rejected why o v ∷ []) (o + 8))
   carves : (v n : ℕ) → o + 8 ≤ length s → Candidate st s o v n → Shape st s o (go (carved o v n ∷ []) (o + round8 n))
-
-and-left : (a b : Bool) → (a && b) ≡ true → a ≡ true
-and-left true b e = refl
-and-left false b e = e
-
-and-right : (a b : Bool) → (a && b) ≡ true → b ≡ true
-and-right true b e = e
-and-right false b e = absurd (false≢true e)
 
 module _ (st : Settings) (s : List ℕ) (o : ℕ) (a : o + 8 ≤ length s) where
   judged-shape : (l : Layout) (h : Header) → Candidate st s o (l .major) (h .size) → Shape st s o (judged st l o h)

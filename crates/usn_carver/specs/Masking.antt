@@ -1,7 +1,7 @@
 -- What the second of two carving runs may replace, and where the claim that nothing changes has its exception.
 use Prim.Native.Nat.{ℕ, _+_}
 use mathlib.Core.List.{List, [], List·Memᴰ}
-use Rattle.walk.specs.Outcome.{Outcome, refused, answered}
+use Rattle.walk.specs.Outcome.{Outcome, refused, answered, listedBy}
 use Rattle.walk.specs.Masked.{placesOf}
 use Rattle.walk.specs.declared.Place.{Place}
 use Rattle.usn_record.specs.Names.{nameAt}
@@ -19,18 +19,14 @@ nameOf s (carved o v n) = nameAt s o
 abbrev pub NoOverlap : List Event → Type 0
 NoOverlap es = (why : Reason) (o n : ℕ) → List·Memᴰ (rejected why o 3) es → List·Memᴰ (carved (o + 8) 2 n) es → ⊥
 
--- what is only asked of a call that answers, and what only such a call lists
+-- what is only asked of a call that answers
 abbrev pub IfAnswered : {A : Type 0} → Outcome A → Type 0 → Type 0
 IfAnswered (refused n) P = Unit {0}
 IfAnswered (answered a) P = P
 
-abbrev pub listIfAnswered : {A B : Type 0} → Outcome A → List B → List B
-listIfAnswered (refused n) xs = []
-listIfAnswered (answered a) xs = xs
-
 -- the records that a call with a list of so many words lists, and their names
 abbrev pub carvedRecords : Settings → List ℕ → ℕ → List Place
-carvedRecords st s words = listIfAnswered (carving st s words) (recordsIn st s)
+carvedRecords st s words = listedBy (λ _. recordsIn st s) (carving st s words)
 
 abbrev pub carvedNames : Settings → List ℕ → ℕ → List Place
 carvedNames st s words = placesOf (λ p. nameAt s (p .offset)) (carvedRecords st s words)

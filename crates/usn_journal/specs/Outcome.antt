@@ -1,11 +1,11 @@
 -- The outcome of a scan: its answer, and what the lent list holds after it.
 use Prim.Native.Nat.{ℕ, _/_}
-use mathlib.Core.List.{List, []}
+use mathlib.Core.List.{List}
 use mathlib.Core.Bool.{cond}
 use lib.ListN.{length}
 use lib.Dec.{ltb, leb}
 use Rattle.walk.specs.Lists.{flatten, placeWords, listAfter}
-use Rattle.walk.specs.Outcome.{Outcome, refused, answered, mapOutcome}
+use Rattle.walk.specs.Outcome.{Outcome, refused, answered, mapOutcome, listedBy}
 use Rattle.walk.specs.Refusals.{aboveDomain, listFull, domain}
 use Rattle.walk.specs.declared.Place.{Place}
 use Rattle.usn_journal.specs.Scan.{scanned}
@@ -29,8 +29,7 @@ scanList s l = listAfter (flatten placeWords) (scan s (length l)) l
 
 -- the records that a scan lists: none where it is refused
 abbrev pub listing : Outcome (List Place) → List Place
-listing (refused n) = []
-listing (answered ps) = ps
+listing = listedBy (λ ps. ps)
 
 -- what the call's answer says
 abbrev pub scanOutcome : Scanned → Outcome ℕ

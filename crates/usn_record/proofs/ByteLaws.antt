@@ -6,10 +6,11 @@ use native.Mathlib.Nat.{add-zero, add-suc, add-assoc, zero-mul, add-mul, mul-ass
 use native.Mathlib.Omega.{arith}
 use borrow.Author.Tests.{le-leb, lt-leb}
 use lib.ListN.{length, getD, take, drop}
-use lib.Dec.{lit<}
+use lib.Dec.{leb, lit<}
 use lib.Pow.{pow-add}
 use Rattle.walk.specs.Places.{part}
 use Rattle.walk.specs.Agree.{Agree}
+use Rattle.walk.proofs.ChoiceLaws.{cond-cases}
 use Rattle.walk.proofs.AgreeLaws.{agree-in, part-in, part-length}
 use Rattle.usn_record.specs.Bytes.{le, leAt}
 
@@ -58,6 +59,10 @@ unfolding le
 le-lt zero s o b = lit< tt
 le-lt (suc w) s o b =
     rw pow-succ' (omega (arith, le-lt w s o b, mul-le-mul-right (256 ^ w) (below (getD s (o + w) 0) (b (o + w)))))
+
+pub read-lt : (w : ℕ) (s : List ℕ) (o : ℕ) → ((i : ℕ) → getD s i 0 < 256) → leAt w s o < 256 ^ w
+unfolding leAt
+read-lt w s o b = cond-cases (λ (n : ℕ). n < 256 ^ w) (leb (o + w) (length s)) (λ _. le-lt w s o b) (λ _. omega (arith, le-lt w s o b))
 
 -- a read inside a part is a read of the whole
 module _ (s : List ℕ) (o n : ℕ) where

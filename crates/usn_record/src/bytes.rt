@@ -7,6 +7,16 @@ ghost use mir.Syntax.{w64};
 ghost use mir.Val.{ofZ};
 ghost use Rattle.usn_record.specs.Bytes.{leAt};
 
+// The byte at an offset.
+pub fn byte_at(data: &[u8], offset: usize) -> u8
+    ensures { λ r. ⌜ r ≡ leAt 1 (now («data» .entry)) offset ⌝ }
+{
+    if data.len() <= offset {
+        return 0;
+    }
+    data[offset]
+}
+
 // The two bytes at an offset.
 pub fn le_u16(data: &[u8], offset: usize) -> u16
     ensures { λ r. ⌜ r ≡ leAt 2 (now («data» .entry)) offset ⌝ }

@@ -70,7 +70,7 @@ pub(crate) fn read_reference(data: &[u8], at: usize, wide: bool, sequenced: bool
 }
 
 // The parts of the reference low + high * 2 ^ 64.
-fn parts_of(low: u64, high: u64, sequenced: bool) -> Reference
+pub fn parts_of(low: u64, high: u64, sequenced: bool) -> Reference
     ensures { λ r. ⌜ r ≡ referenceOf sequenced (low + high * 2 ^ 64) ⌝ }
 {
     let entry = low % 0x1_0000_0000_0000;

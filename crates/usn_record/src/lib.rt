@@ -2,7 +2,7 @@
 //
 // Every function here is proved. No call has a `requires`: any slice gets an answer, a record or a refusal by its number.
 pub mod bytes;
-mod fields;
+pub mod fields;
 mod parse;
 pub mod zeros;
 

@@ -1,6 +1,6 @@
 -- Facts of a choice by a test, from its two cases. Assumes nothing.
 use mathlib.Core.Path.{_≡_, refl}
-use mathlib.Core.Bool.{Bool, true, false, cond, true≢false, _||_, _&&_}
+use mathlib.Core.Bool.{Bool, true, false, cond, true≢false, false≢true, _||_, _&&_}
 
 -- what holds of each choice, where its test led to it, holds of the choice
 pub cond-cases : {A : Type 0} (P : A → Type 0) (b : Bool) {x y : A} → (b ≡ true → P x) → (b ≡ false → P y) → P (cond b x y)
@@ -21,6 +21,15 @@ or-left false b e = refl
 pub or-right : (a b : Bool) → (a || b) ≡ false → b ≡ false
 or-right true b e = absurd (true≢false e)
 or-right false b e = e
+
+-- both tests of an `&&` that holds hold
+pub and-left : (a b : Bool) → (a && b) ≡ true → a ≡ true
+and-left true b e = refl
+and-left false b e = e
+
+pub and-right : (a b : Bool) → (a && b) ≡ true → b ≡ true
+and-right true b e = e
+and-right false b e = absurd (false≢true e)
 
 -- an `&&` whose second test fails wherever the first holds
 pub and-false : (a b : Bool) → (a ≡ true → b ≡ false) → (a && b) ≡ false

@@ -62,6 +62,24 @@ module _ {A : Type 0} (s t : List ℕ) (places : A → List Place) (visit visit�
       let q = reads k o fi m in
       rw (q .0) (turn o (visit o) (walk visit k) (walk visit′ k) refl (before o) (q .1) fi m (walk-two-runs k))
 
+-- the same where nothing more is asked of the walk or said of what it finds
+module _ {A : Type 0} (s t : List ℕ) (places : A → List Place) (visit visit′ : ℕ → Visit A)
+    (forward : (o p : ℕ) (es : List A) → visit o ≡ go es p → o ≤ p)
+    (before : (o : ℕ) → Before places (visit o))
+    (reads : (k o : ℕ) → Same s t (placesOf places (walk visit (suc k) o)) o → visit′ o ≡ visit o) where
+  anything : (xs : List A) → All (λ x. Unit {0}) xs
+  anything [] = tt
+  anything (x ∷ xs) = (tt, anything xs)
+
+  finds-anything : (v : Visit A) → Finds (λ x. Unit {0}) v
+  finds-anything stop = tt
+  finds-anything (go es p) = anything es
+
+  pub walk-same : (k o : ℕ) → Same s t (placesOf places (walk visit k o)) o → walk visit′ k o ≡ walk visit k o
+  walk-same k o m =
+      walk-two-runs s t places visit visit′ (λ x. Unit {0}) (λ xs. Unit {0}) (λ es fs _. tt) forward before
+      (λ k o _ m. (reads k o m, finds-anything (visit o))) k o tt m .0
+
 -- masked nowhere, t is s
 pub masked-none : (s t : List ℕ) → Masked s t [] → t ≡ s
 masked-none s t m = ext-getD 0 t s (m .long) (λ i _. m .same i tt)

@@ -16,6 +16,11 @@ abbrev pub refusedAs : {A : Type 0} → ℕ → Outcome A → Outcome A
 refusedAs n (refused m) = refused n
 refusedAs n (answered a) = answered a
 
+-- what a call lists: nothing where it is refused
+abbrev pub listedBy : {A B : Type 0} → (A → List B) → Outcome A → List B
+listedBy list (refused n) = []
+listedBy list (answered a) = list a
+
 -- an outcome as numbers: a refusal is its number alone, an answer 0 and its words
 abbrev pub outcomeWords : {A : Type 0} → (A → List ℕ) → Outcome A → List ℕ
 outcomeWords words (refused n) = n ∷ []

@@ -29,6 +29,10 @@ tableFull = 6
 abbrev pub nameOutside : ℕ
 nameOutside = 7
 
+-- the text buffer is too small
+abbrev pub textFull : ℕ
+textFull = 8
+
 -- the numbers of a state cannot be those of one
 abbrev pub badState : ℕ
 badState = 9

@@ -24,6 +24,8 @@ pub const LIST_FULL: u32 = 5;
 pub const TABLE_FULL: u32 = 6;
 // A name's place lies outside its slice.
 pub const NAME_OUTSIDE: u32 = 7;
+// The text buffer is too small.
+pub const TEXT_FULL: u32 = 8;
 // The numbers of a state cannot be those of one.
 pub const BAD_STATE: u32 = 9;
 // More bytes are given than are wanted.

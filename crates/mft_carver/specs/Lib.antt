@@ -1,0 +1,8 @@
+pub mod Settings
+pub mod Filename
+pub mod Attributes
+pub mod Entry
+pub mod Carve
+pub mod Masking
+pub mod Sample
+pub mod Step

@@ -1,0 +1,48 @@
+-- Sample entries: a header, attributes, and zeros up to 1024 bytes.
+use Prim.Native.Nat.{ℕ, zero, suc, _-_}
+use mathlib.Core.List.{List, [], _∷_, _++_}
+use lib.ListN.{length, replicate}
+use Rattle.usn_record.specs.Bytes.{leBytes}
+use Rattle.usn_record.specs.Sample.{reference}
+use Rattle.mft_carver.specs.Attributes.{fileName, endMarker}
+use Rattle.mft_carver.specs.Entry.{signature}
+
+-- the first 44 bytes of an entry: a directory in use, with this sequence and its first attribute at first
+abbrev pub header : ℕ → ℕ → List ℕ
+header sequence first = signature ++ replicate 12 0 ++ leBytes 2 sequence ++ leBytes 2 1 ++ leBytes 2 first ++ leBytes 2 3 ++ replicate 20 0
+
+-- what stands before the name in a resident $FILE_NAME attribute of 96 bytes: its header, and its content with parent 5:5 and a name of three units
+abbrev pub beforeName : ℕ → List ℕ
+beforeName namespace =
+    leBytes 4 fileName
+    ++ leBytes 4 96
+    ++ replicate 8 0
+    ++ leBytes 4 72
+    ++ leBytes 4 24
+    ++ reference 5 5
+    ++ replicate 56 0
+    ++ (3 ∷ namespace ∷ [])
+
+-- the units of a name
+abbrev pub abc : List ℕ
+abc = leBytes 2 0x61 ++ leBytes 2 0x62 ++ leBytes 2 0x63
+
+-- the attribute with the name abc
+abbrev pub named : ℕ → List ℕ
+named namespace = beforeName namespace ++ abc
+
+-- n attributes of another type and of 8 bytes, one after the other
+abbrev pub others : ℕ → List ℕ
+others zero = []
+others (suc n) = leBytes 4 0x80 ++ leBytes 4 8 ++ others n
+
+abbrev pub last : List ℕ
+last = leBytes 4 endMarker
+
+-- zeros after s, up to 1024 bytes
+abbrev pub padded : List ℕ → List ℕ
+padded s = s ++ replicate (1024 - length s) 0
+
+-- entry 42, with sequence 3 and these attributes
+abbrev pub sample : List ℕ → List ℕ
+sample attributes = padded (header 3 48 ++ leBytes 4 42 ++ attributes ++ last)

@@ -1,0 +1,82 @@
+// One entry of an image: its signature, its header and its name.
+ghost use mathlib.Core.Path.{_≡_};
+ghost use Prim.Native.Nat.{_+_, _≤_};
+ghost use lib.ListN.{length};
+ghost use Rattle.walk.specs.Refusals.{domain};
+ghost use Rattle.mft_carver.specs.Settings.{settingsOf};
+ghost use Rattle.mft_carver.specs.Entry.{hasSignature, judged};
+ghost use Rattle.mft_carver.specs.Step.{eventOf};
+use crate::CarvedMftEntry;
+use crate::attributes::best_filename;
+use crate::filename::Filename;
+use crate::filename::Kept;
+use usn_record::bytes::byte_at;
+use usn_record::bytes::le_u16;
+use usn_record::bytes::le_u32;
+use walk::Place;
+
+// What becomes of a candidate.
+pub enum Candidate {
+    Rejected,
+    Carved(CarvedMftEntry),
+}
+
+// Whether an entry begins with the bytes FILE.
+pub(crate) fn has_signature(entry: &[u8]) -> bool
+    ensures { λ r. ⌜ r ≡ hasSignature (now (entry .entry)) ⌝ }
+{
+    let file = b"FILE";
+    if byte_at(entry, 0) != file[0] {
+        return false;
+    }
+    if byte_at(entry, 1) != file[1] {
+        return false;
+    }
+    if byte_at(entry, 2) != file[2] {
+        return false;
+    }
+    byte_at(entry, 3) == file[3]
+}
+
+// The candidate that stands at an offset of an image.
+pub(crate) fn try_carve_entry(
+    entry: &[u8],
+    offset: usize,
+    low: usize,
+    high: usize,
+    walked: usize,
+) -> Candidate
+    requires { ⌜ offset + length (now entry) ≤ domain ⌝ }
+    ensures { λ r. ⌜ eventOf offset r ≡ judged (settingsOf (length (now (entry .entry))) low high walked) offset (now (entry .entry)) ⌝ }
+{
+    let sequence = le_u16(entry, 16);
+    if sequence == 0 {
+        return Candidate::Rejected;
+    }
+    let first = le_u16(entry, 20) as usize;
+    if first < low {
+        return Candidate::Rejected;
+    }
+    if high < first {
+        return Candidate::Rejected;
+    }
+    match best_filename(entry, first, walked) {
+        Kept::Nothing => Candidate::Rejected,
+        Kept::Name(name) => {
+            let flags = le_u16(entry, 22);
+            Candidate::Carved(CarvedMftEntry {
+                offset,
+                entry_number: le_u32(entry, 44) as u64,
+                sequence_number: sequence,
+                filename: Place {
+                    offset: offset + name.place.offset,
+                    length: name.place.length,
+                },
+                parent_entry: name.parent.entry,
+                parent_sequence: name.parent.sequence,
+                is_directory: flags / 2 % 2 == 1,
+                is_in_use: flags % 2 == 1,
+            })
+        }
+    }
+}

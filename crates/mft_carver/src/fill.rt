@@ -1,0 +1,120 @@
+// The loops over an image: one that fills a lent list and counts, and one that asks whether the list has room.
+ghost use mathlib.Core.Path.{_≡_};
+ghost use mathlib.Core.List.{[]};
+ghost use Prim.Native.Nat.{_/_, _≤_};
+ghost use lib.ListN.{length};
+ghost use lib.Dec.{leb};
+ghost use Rattle.walk.specs.Lists.{flatten, overwrite};
+ghost use Rattle.walk.specs.Refusals.{domain};
+ghost use Rattle.mft_carver.specs.Settings.{settingsOf};
+ghost use Rattle.mft_carver.specs.Carve.{statsOf, entriesIn, statsIn, stride, entryWords};
+use crate::CarvedMftEntry;
+use crate::MftCarvingStats;
+use crate::step::CarveStep;
+use crate::step::carve_step;
+use walk::put_words;
+
+// The words of an entry in a list.
+pub const ENTRY_WORDS: usize = 9;
+
+// Whether the entries to be carved are no more than room. None is counted where room is enough for an image of that length full
+// of entries.
+pub(crate) fn has_room(
+    image: &[u8],
+    room: usize,
+    size: usize,
+    low: usize,
+    high: usize,
+    walked: usize,
+) -> bool
+    requires { ⌜ (1 ≤ size) × (length (now image) ≤ domain) ⌝ }
+    ensures { λ r. ⌜ r ≡ leb (length (entriesIn (settingsOf size low high walked) (now (image .entry)))) room ⌝ }
+{
+    if image.len() / size <= room {
+        return true;
+    }
+    count_entries(image, size, low, high, walked) <= room
+}
+
+// How many entries are carved.
+fn count_entries(image: &[u8], size: usize, low: usize, high: usize, walked: usize) -> usize
+    requires { ⌜ (1 ≤ size) × (length (now image) ≤ domain) ⌝ }
+    ensures { λ r. ⌜ r ≡ length (entriesIn (settingsOf size low high walked) (now (image .entry))) ⌝ }
+{
+    let mut n: usize = 0;
+    let mut o: usize = 0;
+    loop {
+        match carve_step(image, o, size, low, high, walked) {
+            CarveStep::Stop => return n,
+            CarveStep::Move(next) | CarveStep::Rejected(next) => o = next,
+            CarveStep::Carved(_, next) => {
+                n += 1;
+                o = next;
+            }
+        }
+    }
+}
+
+// The carved entries into the list, and the counters of the run.
+pub(crate) fn fill_list(
+    image: &[u8],
+    list: &mut [u64],
+    size: usize,
+    low: usize,
+    high: usize,
+    walked: usize,
+) -> MftCarvingStats
+    requires { ⌜ (1 ≤ size) × (length (now image) ≤ domain) × (length (entriesIn (settingsOf size low high walked) (now image)) ≤ length (now list) / stride) ⌝ }
+    ensures { λ r. ⌜ r ≡ statsIn (settingsOf size low high walked) (now (image .entry)) ⌝ }
+    ensures { λ _. ⌜ now (list .exit) ≡ overwrite (now (list .entry)) (flatten entryWords (entriesIn (settingsOf size low high walked) (now (image .entry)))) ⌝ }
+{
+    let mut stats = nothing_met(image.len());
+    let mut o: usize = 0;
+    loop {
+        match carve_step(image, o, size, low, high, walked) {
+            CarveStep::Stop => return stats,
+            CarveStep::Move(next) => o = next,
+            CarveStep::Rejected(next) => {
+                stats.candidates_examined += 1;
+                stats.rejected += 1;
+                o = next;
+            }
+            CarveStep::Carved(entry, next) => {
+                let row = entry_row(entry);
+                put_words(list, ENTRY_WORDS * stats.entries_carved, &row);
+                stats.candidates_examined += 1;
+                stats.entries_carved += 1;
+                o = next;
+            }
+        }
+    }
+}
+
+// An entry, a word a field.
+fn entry_row(entry: CarvedMftEntry) -> [u64; 9]
+    ensures { λ row. ⌜ row ≡ entryWords entry ⌝ }
+{
+    [
+        entry.offset as u64,
+        entry.entry_number,
+        entry.sequence_number as u64,
+        entry.filename.offset as u64,
+        entry.filename.length as u64,
+        entry.parent_entry,
+        entry.parent_sequence as u64,
+        entry.is_directory as u64,
+        entry.is_in_use as u64,
+    ]
+}
+
+// The counters of a run over so many bytes before its first candidate.
+fn nothing_met(bytes_scanned: usize) -> MftCarvingStats
+    ensures { λ r. ⌜ r ≡ statsOf «bytes_scanned» [] ⌝ }
+{
+    MftCarvingStats {
+        bytes_scanned,
+        candidates_examined: 0,
+        entries_carved: 0,
+        rejected: 0,
+    }
+}

@@ -1,0 +1,52 @@
+// What stands at one offset of an image.
+ghost use mathlib.Core.Path.{_≡_};
+ghost use Prim.Native.Nat.{_≤_};
+ghost use lib.ListN.{length};
+ghost use Rattle.walk.specs.Refusals.{domain};
+ghost use Rattle.mft_carver.specs.Settings.{settingsOf};
+ghost use Rattle.mft_carver.specs.Carve.{visit};
+ghost use Rattle.mft_carver.specs.Step.{visitOf};
+use crate::CarvedMftEntry;
+use crate::entry::Candidate;
+use crate::entry::has_signature;
+use crate::entry::try_carve_entry;
+
+// What a visit says, with the offset of the next one: the image ends, no candidate stands here, or one that is rejected or
+// carved.
+pub enum CarveStep {
+    Stop,
+    Move(usize),
+    Rejected(usize),
+    Carved(CarvedMftEntry, usize),
+}
+
+// The visit of offset o.
+pub(crate) fn carve_step(
+    image: &[u8],
+    o: usize,
+    size: usize,
+    low: usize,
+    high: usize,
+    walked: usize,
+) -> CarveStep
+    requires { ⌜ (1 ≤ size) × (length (now image) ≤ domain) ⌝ }
+    ensures { λ r. ⌜ visitOf o r ≡ visit (settingsOf size low high walked) (now (image .entry)) o ⌝ }
+{
+    let end = image.len();
+    if end < size {
+        return CarveStep::Stop;
+    }
+    if end - size < o {
+        return CarveStep::Stop;
+    }
+    let next = o + size;
+    let entry = &image[o..next];
+    if has_signature(entry) {
+        match try_carve_entry(entry, o, low, high, walked) {
+            Candidate::Rejected => CarveStep::Rejected(next),
+            Candidate::Carved(carved) => CarveStep::Carved(carved, next),
+        }
+    } else {
+        CarveStep::Move(next)
+    }
+}

@@ -1,0 +1,9 @@
+pub mod Utf16Laws
+pub mod Utf8Laws
+pub mod TextLaws
+pub mod FirstLaws
+pub mod PutLaws
+pub mod NameLaws
+pub mod DecimalLaws
+pub mod CallLaws
+pub mod Examples

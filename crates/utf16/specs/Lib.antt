@@ -1,0 +1,6 @@
+pub mod Utf16
+pub mod Utf8
+pub mod Text
+pub mod First
+pub mod Decoding
+pub mod Decimal

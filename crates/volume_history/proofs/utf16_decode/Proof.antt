@@ -1,0 +1,35 @@
+-- Too few words are refused first; otherwise decoding's equations say what goes out.
+use borrow.Author.Needs.{needs}
+use denote.Ref.{now}
+use Rattle.usn_journal_reader.proofs.AnswerLaws.{out-same, both-short, both-answered}
+use Rattle.volume_history.proofs.utf16_decode.Statement.{statement}
+use Rattle.volume_history.proofs.utf16_decode.Tie as tie
+
+returns : tie.Need-returns
+returns c = both-short _ _ _ _ _ (now (c .before .before .before .before .args .out)) (c .if1 .taken)
+
+decode-utf16-requires : tie.Need-decode-utf16-requires
+decode-utf16-requires c κs = search needs
+
+put-length-requires : tie.Need-put-length-requires
+put-length-requires c κs = search needs
+
+same-length : tie.Need-same-length
+same-length c = search needs
+
+same-length-2 : tie.Need-same-length-2
+same-length-2 c = search needs
+
+returns-2 : tie.Need-returns-2
+returns-2 c = both-answered _ _ _ _ _ (now (c .before .before .before .before .before .before .before .before .before .before .before .before .args .out)) (c .before .before .before .before .before .before .before .before .if1 .left) (c .before .before .before .before .before .before .decode-utf16 .ensures .1) (out-same (record { answer = c .before .before .put-length .ensures .0; list = c .before .before .put-length .ensures .1 }) (c .before .before .before .before .before .before .decode-utf16 .ensures .0))
+
+pub utf16-decode-spec : {M : Type 1} → statement M
+utf16-decode-spec =
+    tie.close
+    (tie.spec
+    returns
+    decode-utf16-requires
+    put-length-requires
+    same-length
+    same-length-2
+    returns-2)

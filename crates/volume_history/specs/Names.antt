@@ -1,0 +1,15 @@
+-- The decoding of a name as a C call.
+use Prim.Native.Nat.{ℕ}
+use mathlib.Core.List.{List}
+use lib.ListN.{length}
+use Rattle.walk.specs.Outcome.{Outcome}
+use Rattle.usn_journal_reader.specs.Answers.{withRoom}
+use Rattle.utf16.specs.Decoding.{textOf, decoding}
+
+-- decoding s, with a lent text, and a lent list for its length
+abbrev pub decodeCall : List ℕ → List ℕ → List ℕ → Outcome ℕ
+decodeCall s text out = withRoom 1 (length out) (decoding s (length text))
+
+-- the text of s
+abbrev pub decodedBytes : List ℕ → ℕ → List ℕ
+decodedBytes s _ = textOf s
