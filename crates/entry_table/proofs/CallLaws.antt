@@ -13,14 +13,14 @@ use Rattle.walk.specs.Refusals.{badState, nameOutside, tableFull}
 use Rattle.walk.proofs.ChoiceLaws.{cond-cases}
 use Rattle.entry_table.specs.Names.{Lengths, lengthsOf, inside, allInside}
 use Rattle.entry_table.specs.Slots.{slotsIn, sameKey}
-use Rattle.entry_table.specs.Table.{Table, known, Addition, addition, add, addAll}
+use Rattle.entry_table.specs.Table.{Table, entered, lookup, known, Addition, addition, add, addAll}
 use Rattle.entry_table.specs.Storing.{newKeys, keysOf, namesOf, adding, storing, inserting}
 use Rattle.entry_table.specs.InTurn.{andThen, inTurn}
 use Rattle.entry_table.specs.declared.EntryKey.{EntryKey}
 use Rattle.entry_table.specs.declared.EntryInfo.{EntryInfo}
 use Rattle.entry_table.proofs.TestLaws.{and-left, and-right}
 use Rattle.entry_table.proofs.StoringLaws.{adding-one, stored-inside}
-use Rattle.entry_table.proofs.TableLaws.{used-added, length-added, known-added}
+use Rattle.entry_table.proofs.TableLaws.{used-added, length-added, known-added, lookup-other, lookup-inserted, add-known}
 use Rattle.entry_table.proofs.CountLaws.{new-same, new-first, new-none, adding-room, Adding, adding-start, adding-slot, adding-next, used-all}
 use Rattle.entry_table.proofs.KeptLaws.{Kept, all-kept}
 
@@ -67,6 +67,30 @@ accepted-keeps {ls} {t} {u} {xs} w = rw (w .leaves) (all-kept t xs)
 
 pub accepted-fits : {ls : Lengths} {t u : Table} {xs : List Addition} → Accepted ls t xs u → u .used ≤ slotsIn (u .words)
 accepted-fits w = omega (arith, accepted-used w, w .room, accepted-keeps w .long)
+
+-- an insertion that goes ahead is looked up again, and lookups of other keys stay as they were
+module _ (ls : Lengths) (t u : Table) (k : EntryKey) (info : EntryInfo) where
+  one-slot : (replace : Bool) → Accepted ls t (addition k info replace ∷ []) u → t .used + cond (known t k) 0 1 ≤ slotsIn (t .words)
+  one-slot replace w = adding-slot (adding-start t (addition k info replace ∷ []) (w .room)) refl
+
+  pub inserted-lookup : inserting ls t k info true ≡ answered u → lookup u k ≡ entered info
+  unfolding addAll
+  inserted-lookup e =
+      let w : Accepted ls t (addition k info true ∷ []) u = stored-accepted ls t (addition k info true ∷ []) e in
+      ap (λ (v : Table). lookup v k) (w .leaves) ∙ lookup-inserted t (addition k info true) (one-slot true w) refl
+
+  pub inserted-others : (replace : Bool) → inserting ls t k info replace ≡ answered u → (j : EntryKey) → sameKey k j ≡ false → lookup u j ≡ lookup t j
+  unfolding addAll
+  inserted-others replace e j apart =
+      let w : Accepted ls t (addition k info replace ∷ []) u = stored-accepted ls t (addition k info replace ∷ []) e in
+      ap (λ (v : Table). lookup v j) (w .leaves) ∙ lookup-other t (addition k info replace) (one-slot replace w) j apart
+
+  -- and one if absent changes nothing where the key is known
+  pub absent-known : known t k ≡ true → inserting ls t k info false ≡ answered u → u ≡ t
+  unfolding addAll
+  absent-known y e =
+      let w : Accepted ls t (addition k info false ∷ []) u = stored-accepted ls t (addition k info false ∷ []) e in
+      w .leaves ∙ add-known t (addition k info false) (one-slot false w) y refl
 
 -- an insertion says 6 only where its key is new and every slot is used
 pub record Full (t : Table) (k : EntryKey) : Type 0 where

@@ -108,8 +108,8 @@ fn put(slots: &mut [u64], i: usize, key: EntryKey, info: EntryInfo)
     put_words(slots, i * STRIDE, &words);
 }
 
-// An entry under its key. A known one is replaced, or left alone where replace is false; a new one takes the first slot that
-// is not used. Refused, with nothing written: 6 the key is new and no slot is left.
+// Stores an entry under its key. A known one is replaced, or left alone where replace is false; a new one takes the first slot
+// that is not used. Refused, with nothing written: 6 the key is new and no slot is left.
 pub fn add(slots: &mut [u64], used: usize, key: EntryKey, info: EntryInfo, replace: bool) -> Stored
     requires { ⌜ used ≤ slotsIn (now slots) ⌝ }
     ensures { λ r. ⌜ outcome r ≡ usedAfter (adding (table (now (slots .entry)) used) (addition key info replace ∷ [])) ⌝ }
