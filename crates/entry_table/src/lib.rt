@@ -84,9 +84,9 @@ pub fn insert_if_absent(
     store(journal.len(), image.len(), slots, used, key, info, false)
 }
 
-// Stores the carved entries of an image, in turn, each where its key is new. They come as the image carver lists them, nine words an entry:
-// offset, entry, sequence, name offset, name length, parent entry, parent sequence, directory, in use. Words after the last
-// whole entry are ignored.
+// Stores the carved entries of an image, in turn, each where its key is new. They come as the image carver lists them, nine
+// words an entry: offset, entry, sequence, name offset, name length, parent entry, parent sequence, directory, in use. Words
+// after the last whole entry are ignored.
 // Refused, with nothing written: 9 used is above the slots, 7 a listed name's place passes the image, also of a known entry,
 // 6 the different new keys are more than the slots that are left.
 pub fn seed(journal: &[u8], image: &[u8], slots: &mut [u64], used: usize, entries: &[u64]) -> Stored
