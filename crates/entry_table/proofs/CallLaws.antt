@@ -10,7 +10,7 @@ use lib.ListN.{length}
 use lib.Dec.{ltb}
 use Rattle.walk.specs.Outcome.{Outcome, refused, answered}
 use Rattle.walk.specs.Refusals.{badState, nameOutside, tableFull}
-use Rattle.walk.proofs.ChoiceLaws.{cond-cases}
+use Rattle.walk.proofs.ChoiceLaws.{cond-cases, and-left, and-right}
 use Rattle.entry_table.specs.Names.{Lengths, lengthsOf, inside, allInside}
 use Rattle.entry_table.specs.Slots.{slotsIn, sameKey}
 use Rattle.entry_table.specs.Table.{Table, entered, lookup, known, Addition, addition, add, addAll}
@@ -18,7 +18,6 @@ use Rattle.entry_table.specs.Storing.{newKeys, keysOf, namesOf, adding, 
 use Rattle.entry_table.specs.InTurn.{andThen, inTurn}
 use Rattle.entry_table.specs.declared.EntryKey.{EntryKey}
 use Rattle.entry_table.specs.declared.EntryInfo.{EntryInfo}
-use Rattle.entry_table.proofs.TestLaws.{and-left, and-right}
 use Rattle.entry_table.proofs.StoringLaws.{adding-one, stored-inside}
 use Rattle.entry_table.proofs.TableLaws.{used-added, length-added, known-added, lookup-other, lookup-inserted, add-known}
 use Rattle.entry_table.proofs.CountLaws.{new-same, new-first, new-none, adding-room, Adding, adding-start, adding-slot, adding-next, used-all}

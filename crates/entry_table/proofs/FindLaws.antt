@@ -7,11 +7,12 @@ use native.Mathlib.Omega.{arith}
 use native.Mathlib.Nat.{sub-zero, add-zero}
 use borrow.Author.Tests.{eq-eqb, ne-eqb, eqb-true}
 use lib.Dec.{eqb}
+use Rattle.walk.proofs.ChoiceLaws.{and-left, and-right}
 use Rattle.entry_table.specs.Slots.{sameKey, keyAt, findFrom}
 use Rattle.entry_table.specs.declared.EntryKey.{EntryKey}
 use Rattle.entry_table.specs.declared.slots.Found.{Found}
 use Rattle.entry_table.specs.declared.slots.Found.the-variants.{At, Nothing}
-use Rattle.entry_table.proofs.TestLaws.{and-left, and-right, from-here}
+use Rattle.entry_table.proofs.TestLaws.{from-here}
 
 -- two keys compared: the entries, and then the sequences
 pub same-entry : (a b : EntryKey) → a .entry ≡ b .entry → eqb (a .sequence) (b .sequence) ≡ sameKey a b

@@ -8,12 +8,13 @@ use native.Mathlib.Nat.{sub-zero}
 use borrow.Author.Tests.{lt-leb}
 use lib.Dec.{leb}
 use lib.ListN.{length}
+use Rattle.walk.proofs.ChoiceLaws.{and-left, and-right}
 use Rattle.entry_table.specs.Names.{Lengths, lengthOf, inside, allInside}
 use Rattle.entry_table.specs.Slots.{rows}
 use Rattle.entry_table.specs.Storing.{namesOf}
 use Rattle.entry_table.specs.Carved.{row, carvedAt, carvedName, carvedIn}
 use Rattle.entry_table.specs.declared.NamePlace.{NamePlace}
-use Rattle.entry_table.proofs.TestLaws.{and-left, and-right, from-here, leb-sub}
+use Rattle.entry_table.proofs.TestLaws.{from-here, leb-sub}
 use Rattle.entry_table.proofs.RowLaws.{rows-next, rows-end, map-rows}
 
 module _ (ls : Lengths) (p : NamePlace) {end : ℕ} (e : end ≡ lengthOf ls (p .source)) where
