@@ -8,15 +8,19 @@ ghost use Rattle.usn_journal_reader.specs.Journal.{countWords};
 ghost use Rattle.mft_carver.specs.Carve.{statsWords};
 ghost use Rattle.mft_carver.specs.Carve.{outcome as carvingOutcome};
 ghost use Rattle.utf16.specs.Decoding.{outcome as decodingOutcome};
+ghost use Rattle.entry_table.specs.Storing.{outcome as storingOutcome};
+use entry_table::Stored;
 use mft_carver::MftCarving;
 use mft_carver::MftCarvingStats;
 use utf16::Decoded;
 use walk::put_words;
 
-// The words of carving's answer, and of decoding's.
+// The words of carving's answer, of decoding's, and of storing's.
 pub const STATS_WORDS: usize = 4;
 
 pub const TEXT_WORDS: usize = 1;
+
+pub const USED_WORDS: usize = 1;
 
 // Carving's answer: 0 with the counters in front of the lent words, or the refusal.
 pub(crate) fn put_stats(carving: MftCarving, out: &mut [u64]) -> u32
@@ -58,5 +62,20 @@ pub(crate) fn put_length(decoded: Decoded, out: &mut [u64]) -> u32
             0
         }
         Decoded::Refused(n) => n,
+    }
+}
+
+// Storing's answer: 0 with the used slots as the first of the lent words, or the refusal.
+pub(crate) fn put_used(stored: Stored, out: &mut [u64]) -> u32
+    requires { ⌜ 1 ≤ length (now out) ⌝ }
+    ensures { λ r. ⌜ r ≡ number (storingOutcome stored) ⌝ }
+    ensures { λ _. ⌜ now (out .exit) ≡ listAfter countWords (storingOutcome stored) (now (out .entry)) ⌝ }
+{
+    match stored {
+        Stored::Used(n) => {
+            out[0] = n as u64;
+            0
+        }
+        Stored::Refused(n) => n,
     }
 }

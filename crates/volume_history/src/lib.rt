@@ -1,24 +1,34 @@
-// Image carving and the decoding of names as C functions, for Rust or C to link: a slice is a pointer and a length, and an answer
-// goes out as a number, 0 or a refusal's, with its words in a lent list.
+// Image carving, the decoding of names and the lookup table as C functions, for Rust or C to link: a slice is a pointer and a
+// length, and an answer goes out as a number, 0 or a refusal's, with its words in a lent list.
 //
 //     mft_carve_entries    the MFT entries in an image
 //     utf16_decode         the text of a name
+//     table_insert, table_insert_if_absent, table_seed
+//                          the lookup table: an entry under its key, and all carved entries
 //
 // Every function here is proved, and none has a `requires`. A refused call writes nothing, and one that answers writes the words
 // of its answer alone: those past them stay as they were.
 mod answers;
 
 ghost use mathlib.Core.Path.{_≡_};
+ghost use mathlib.Core.Bool.{true, false};
 ghost use Rattle.walk.specs.Lists.{listAfter};
 ghost use Rattle.usn_journal_reader.specs.Answers.{number};
 ghost use Rattle.usn_journal_reader.specs.Journal.{countWords};
 ghost use Rattle.mft_carver.specs.Carve.{statsWords};
+ghost use Rattle.entry_table.specs.Storing.{wordsAfter};
 ghost use Rattle.volume_history.specs.Image.{carveCall, carvedWords};
 ghost use Rattle.volume_history.specs.Names.{decodeCall, decodedBytes};
+ghost use Rattle.volume_history.specs.Table.{keyOf, infoOf, insertCall, seedCall, usedWords};
 use crate::answers::STATS_WORDS;
 use crate::answers::TEXT_WORDS;
+use crate::answers::USED_WORDS;
 use crate::answers::put_length;
 use crate::answers::put_stats;
+use crate::answers::put_used;
+use entry_table::EntryInfo;
+use entry_table::EntryKey;
+use entry_table::NamePlace;
 use walk::LIST_FULL;
 
 // The MFT entries in an image: for each nine words of list, namely its offset, number and sequence, its name's offset and length
@@ -50,4 +60,125 @@ pub extern "C" fn utf16_decode(bytes: &[u8], text: &mut [u8], out: &mut [u64]) -
         return LIST_FULL;
     }
     put_length(utf16::decode_utf16(bytes, text), out)
+}
+
+// An entry under its key into a table of seven words a slot, of which used are used, in place of a known one: its parent, and its
+// name's source (0 the journal, any other the image), offset and length in bytes. A word of out: the used slots after it.
+// Answers 0, or refuses: 5 out has no word, 9 used is above the slots, 7 the name's place passes its slice, 6 the key is new and
+// no slot is left.
+#[no_mangle]
+pub extern "C" fn table_insert(
+    journal: &[u8],
+    image: &[u8],
+    slots: &mut [u64],
+    used: usize,
+    entry: u64,
+    sequence: u64,
+    parent_entry: u64,
+    parent_sequence: u64,
+    source: u64,
+    offset: u64,
+    length: u64,
+    out: &mut [u64],
+) -> u32
+    ensures { λ r. ⌜ r ≡ number (insertCall (now (journal .entry)) (now (image .entry)) (now (slots .entry)) used (keyOf entry sequence) (infoOf «parent_entry» «parent_sequence» source offset length) true (now (out .entry))) ⌝ }
+    ensures { λ _. ⌜ now (slots .exit) ≡ wordsAfter (insertCall (now (journal .entry)) (now (image .entry)) (now (slots .entry)) used (keyOf entry sequence) (infoOf «parent_entry» «parent_sequence» source offset length) true (now (out .entry))) (now (slots .entry)) ⌝ }
+    ensures { λ _. ⌜ now (out .exit) ≡ listAfter usedWords (insertCall (now (journal .entry)) (now (image .entry)) (now (slots .entry)) used (keyOf entry sequence) (infoOf «parent_entry» «parent_sequence» source offset length) true (now (out .entry))) (now (out .entry)) ⌝ }
+{
+    if out.len() < USED_WORDS {
+        return LIST_FULL;
+    }
+    put_used(
+        entry_table::insert(
+            journal,
+            image,
+            slots,
+            used,
+            EntryKey { entry, sequence },
+            entry_info(parent_entry, parent_sequence, source, offset, length),
+        ),
+        out,
+    )
+}
+
+// The same where the key is new; a known entry is left alone.
+#[no_mangle]
+pub extern "C" fn table_insert_if_absent(
+    journal: &[u8],
+    image: &[u8],
+    slots: &mut [u64],
+    used: usize,
+    entry: u64,
+    sequence: u64,
+    parent_entry: u64,
+    parent_sequence: u64,
+    source: u64,
+    offset: u64,
+    length: u64,
+    out: &mut [u64],
+) -> u32
+    ensures { λ r. ⌜ r ≡ number (insertCall (now (journal .entry)) (now (image .entry)) (now (slots .entry)) used (keyOf entry sequence) (infoOf «parent_entry» «parent_sequence» source offset length) false (now (out .entry))) ⌝ }
+    ensures { λ _. ⌜ now (slots .exit) ≡ wordsAfter (insertCall (now (journal .entry)) (now (image .entry)) (now (slots .entry)) used (keyOf entry sequence) (infoOf «parent_entry» «parent_sequence» source offset length) false (now (out .entry))) (now (slots .entry)) ⌝ }
+    ensures { λ _. ⌜ now (out .exit) ≡ listAfter usedWords (insertCall (now (journal .entry)) (now (image .entry)) (now (slots .entry)) used (keyOf entry sequence) (infoOf «parent_entry» «parent_sequence» source offset length) false (now (out .entry))) (now (out .entry)) ⌝ }
+{
+    if out.len() < USED_WORDS {
+        return LIST_FULL;
+    }
+    put_used(
+        entry_table::insert_if_absent(
+            journal,
+            image,
+            slots,
+            used,
+            EntryKey { entry, sequence },
+            entry_info(parent_entry, parent_sequence, source, offset, length),
+        ),
+        out,
+    )
+}
+
+// The carved entries, nine words each as mft_carve_entries lists them, each where its key is new. A word of out: the used slots
+// after it.
+// Answers 0, or refuses: 5 out has no word, 9 used is above the slots, 7 a listed name's place passes the image, 6 the different
+// new keys are more than the slots that are left.
+#[no_mangle]
+pub extern "C" fn table_seed(
+    journal: &[u8],
+    image: &[u8],
+    slots: &mut [u64],
+    used: usize,
+    entries: &[u64],
+    out: &mut [u64],
+) -> u32
+    ensures { λ r. ⌜ r ≡ number (seedCall (now (journal .entry)) (now (image .entry)) (now (slots .entry)) used (now (entries .entry)) (now (out .entry))) ⌝ }
+    ensures { λ _. ⌜ now (slots .exit) ≡ wordsAfter (seedCall (now (journal .entry)) (now (image .entry)) (now (slots .entry)) used (now (entries .entry)) (now (out .entry))) (now (slots .entry)) ⌝ }
+    ensures { λ _. ⌜ now (out .exit) ≡ listAfter usedWords (seedCall (now (journal .entry)) (now (image .entry)) (now (slots .entry)) used (now (entries .entry)) (now (out .entry))) (now (out .entry)) ⌝ }
+{
+    if out.len() < USED_WORDS {
+        return LIST_FULL;
+    }
+    put_used(entry_table::seed(journal, image, slots, used, entries), out)
+}
+
+// What is known of a key, from its numbers.
+fn entry_info(
+    parent_entry: u64,
+    parent_sequence: u64,
+    source: u64,
+    offset: u64,
+    length: u64,
+) -> EntryInfo
+    ensures { λ r. ⌜ r ≡ infoOf «parent_entry» «parent_sequence» source offset length ⌝ }
+{
+    EntryInfo {
+        parent: EntryKey {
+            entry: parent_entry,
+            sequence: parent_sequence,
+        },
+        name: NamePlace {
+            source,
+            offset,
+            length,
+        },
+    }
 }

@@ -1,0 +1,39 @@
+-- Too few words are refused first; otherwise the table's equations say what goes out.
+use denote.Ref.{now}
+use Rattle.volume_history.proofs.AnswerLaws.{stores-short, stores-answered}
+use borrow.Author.Needs.{needs}
+use Rattle.volume_history.proofs.table_insert_if_absent.Statement.{statement}
+use Rattle.volume_history.proofs.table_insert_if_absent.Tie as tie
+
+returns : tie.Need-returns
+returns c = stores-short _ _ (now (c .before .before .before .before .before .args .out)) (c .if1 .taken)
+
+entry-info-requires : tie.Need-entry-info-requires
+entry-info-requires c κs = search needs
+
+insert-if-absent-requires : tie.Need-insert-if-absent-requires
+insert-if-absent-requires c κs = search needs
+
+put-used-requires : tie.Need-put-used-requires
+put-used-requires c κs = search needs
+
+same-length : tie.Need-same-length
+same-length c = search needs
+
+same-length-2 : tie.Need-same-length-2
+same-length-2 c = search needs
+
+returns-2 : tie.Need-returns-2
+returns-2 c = stores-answered _ _ (now (c .before .before .before .before .before .before .before .before .before .before .before .before .before .before .args .out)) (c .before .before .before .before .before .before .before .before .before .if1 .left) (c .before .before .before .before .before .before .insert-if-absent .result) (rw (c .before .before .before .before .before .before .before .entry-info .ensures) at (c .before .before .before .before .before .before .insert-if-absent .ensures .0)) (rw (c .before .before .before .before .before .before .before .entry-info .ensures) at (c .before .before .before .before .before .before .insert-if-absent .ensures .1)) (record { answer = c .before .before .put-used .ensures .0; list = c .before .before .put-used .ensures .1 })
+
+pub table-insert-if-absent-spec : {M : Type 1} → statement M
+table-insert-if-absent-spec =
+    tie.close
+    (tie.spec
+    returns
+    entry-info-requires
+    insert-if-absent-requires
+    put-used-requires
+    same-length
+    same-length-2
+    returns-2)

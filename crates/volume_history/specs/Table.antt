@@ -1,0 +1,35 @@
+-- The lookup table's calls as C calls.
+use Prim.Native.Nat.{ℕ}
+use mathlib.Core.List.{List}
+use mathlib.Core.Bool.{Bool}
+use lib.ListN.{length}
+use Rattle.walk.specs.Outcome.{Outcome}
+use Rattle.usn_journal_reader.specs.Answers.{withRoom}
+use Rattle.usn_journal_reader.specs.Journal.{countWords}
+use Rattle.entry_table.specs.Names.{lengthsOf}
+use Rattle.entry_table.specs.Table.{Table, table}
+use Rattle.entry_table.specs.Storing.{inserting}
+use Rattle.entry_table.specs.Carved.{seeding}
+use Rattle.entry_table.specs.declared.EntryKey.{EntryKey}
+use Rattle.entry_table.specs.declared.EntryInfo.{EntryInfo}
+
+-- a key, and what is known of it, from their numbers
+abbrev pub keyOf : ℕ → ℕ → EntryKey
+keyOf entry sequence = record { entry = entry; sequence = sequence }
+
+abbrev pub infoOf : ℕ → ℕ → ℕ → ℕ → ℕ → EntryInfo
+infoOf parent sequence source offset length =
+    record { parent = keyOf parent sequence; name = record { source = source; offset = offset; length = length } }
+
+-- an insertion, with lent words for the table and for the number of its used slots
+abbrev pub insertCall : List ℕ → List ℕ → List ℕ → ℕ → EntryKey → EntryInfo → Bool → List ℕ → Outcome Table
+insertCall journal image slots used key info replace out =
+    withRoom 1 (length out) (inserting (lengthsOf journal image) (table slots used) key info replace)
+
+-- seeding with a list of carved entries
+abbrev pub seedCall : List ℕ → List ℕ → List ℕ → ℕ → List ℕ → List ℕ → Outcome Table
+seedCall journal image slots used entries out = withRoom 1 (length out) (seeding (lengthsOf journal image) (table slots used) entries)
+
+-- the word of a table's used slots
+abbrev pub usedWords : Table → List ℕ
+usedWords t = countWords (t .used)
