@@ -21,6 +21,14 @@ lengthPastSlice = 4
 abbrev pub listFull : ℕ
 listFull = 5
 
+-- the used slots of a table and the different keys to be added are more than its slots
+abbrev pub tableFull : ℕ
+tableFull = 6
+
+-- a name's place lies outside its slice
+abbrev pub nameOutside : ℕ
+nameOutside = 7
+
 -- the text buffer is too small
 abbrev pub textFull : ℕ
 textFull = 8

@@ -20,6 +20,10 @@ pub const BAD_LENGTH: u32 = 3;
 pub const LENGTH_PAST_SLICE: u32 = 4;
 // There are more results than the lent list takes.
 pub const LIST_FULL: u32 = 5;
+// The used slots of a table and the different keys to be added are more than its slots.
+pub const TABLE_FULL: u32 = 6;
+// A name's place lies outside its slice.
+pub const NAME_OUTSIDE: u32 = 7;
 // The text buffer is too small.
 pub const TEXT_FULL: u32 = 8;
 // The numbers of a state cannot be those of one.

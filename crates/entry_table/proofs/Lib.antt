@@ -1,0 +1,12 @@
+pub mod TestLaws
+pub mod RowLaws
+pub mod NameLaws
+pub mod FindLaws
+pub mod PutLaws
+pub mod TableLaws
+pub mod StoringLaws
+pub mod CountLaws
+pub mod SeedLaws
+pub mod KeptLaws
+pub mod CallLaws
+pub mod Examples

@@ -1,0 +1,76 @@
+use mathlib.Core.Path.{refl, ap}
+use Rattle.entry_table.specs.Storing.{outcome}
+use Rattle.entry_table.proofs.StoringLaws.{comes-out}
+-- The invariant: the entries left have room, and lead to where all of them lead.
+use Prim.Native.Nat.{_-_}
+use native.Mathlib.Omega.{arith}
+use borrow.Author.Needs.{needs}
+use Rattle.entry_table.specs.Table.{table}
+use Rattle.entry_table.proofs.SeedLaws.{Seeding, seeding-start, seeding-next, seeding-refused, seeding-end}
+use Rattle.entry_table.proofs.carved.add_carved.Statement.{statement}
+use Rattle.entry_table.proofs.carved.add_carved.Tie as tie
+
+abbrev Inv-loop : tie.InvT-loop
+Inv-loop slots₀ used entries count now-used₀ i₀ slots now-used i = Seeding (table slots₀ used) (table slots now-used) entries i
+
+abbrev μ-loop : tie.MeasureT-loop
+μ-loop slots₀ used entries count now-used₀ i₀ slots now-used i = count - i
+
+loop-holds : tie.Need-loop-holds Inv-loop μ-loop
+loop-holds c = seeding-start _ _ (c .before .before .pre)
+
+carved-key-requires : tie.Need-carved-key-requires Inv-loop μ-loop
+carved-key-requires c κs = omega arith
+
+carved-info-requires : tie.Need-carved-info-requires Inv-loop μ-loop
+carved-info-requires c κs = omega arith
+
+add-requires : tie.Need-add-requires Inv-loop μ-loop
+add-requires c κs = omega (arith, c .before .before .before .before .loop .inv .rest .room)
+
+enum-known-n : tie.Need-enum-known-n Inv-loop μ-loop
+enum-known-n c = search needs
+
+enum-known-n-2 : tie.Need-enum-known-n-2 Inv-loop μ-loop
+enum-known-n-2 c = search needs
+
+same-length : tie.Need-same-length Inv-loop μ-loop
+same-length c = absurd (seeding-refused (c .before .before .before .before .before .before .before .before .before .before .loop .inv) (c .before .before .before .before .before .before .before .before .before .loop-test .taken) (c .before .before .before .before .before .before .before .before .carved-key .ensures) (c .before .before .before .before .before .before .before .carved-info .ensures) (c .before .before .before .before .before .add .ensures .0) (ap outcome (c .before .n2 .given .1)))
+
+returns : tie.Need-returns Inv-loop μ-loop
+returns c = absurd (seeding-refused (c .before .before .before .before .before .before .before .before .before .before .loop .inv) (c .before .before .before .before .before .before .before .before .before .loop-test .taken) (c .before .before .before .before .before .before .before .before .carved-key .ensures) (c .before .before .before .before .before .before .before .carved-info .ensures) (c .before .before .before .before .before .add .ensures .0) (ap outcome (c .before .n2 .given .1)))
+
+add-i : tie.Need-add-i Inv-loop μ-loop
+add-i c = omega arith
+
+loop-less : tie.Need-loop-less Inv-loop μ-loop
+loop-less c = omega arith
+
+loop-again : tie.Need-loop-again Inv-loop μ-loop
+loop-again c = seeding-next (c .before .before .before .before .before .before .before .before .before .before .loop .inv) (c .before .before .before .before .before .before .before .before .before .loop-test .taken) (c .before .before .before .before .before .before .before .before .carved-key .ensures) (c .before .before .before .before .before .before .before .carved-info .ensures) (c .before .before .before .before .before .add .ensures .0) (ap outcome (c .before .n .given .1)) (c .before .before .before .before .before .add .ensures .1)
+
+same-length-2 : tie.Need-same-length-2 Inv-loop μ-loop
+same-length-2 c = c .before .loop .inv .rest .same
+
+returns-2 : tie.Need-returns-2 Inv-loop μ-loop
+returns-2 c = comes-out _ (seeding-end (c .before .loop .inv) (c .loop-test .left) (c .before .before .before .before .pre)) refl refl
+
+pub add-carved-spec : {M : Type 1} → statement M
+add-carved-spec =
+    tie.close
+    (tie.spec
+    Inv-loop
+    μ-loop
+    loop-holds
+    carved-key-requires
+    carved-info-requires
+    add-requires
+    enum-known-n
+    enum-known-n-2
+    same-length
+    returns
+    add-i
+    loop-less
+    loop-again
+    same-length-2
+    returns-2)

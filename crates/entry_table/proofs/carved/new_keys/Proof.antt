@@ -1,0 +1,54 @@
+use borrow.Author.Tests.{not-true, not-false}
+use mathlib.Core.Logic.{⊎-elim}
+-- The invariant: the new keys counted, with those of the entries left, are all of them.
+use Prim.Native.Nat.{_-_}
+use native.Mathlib.Omega.{arith}
+use Rattle.entry_table.specs.Table.{table}
+use Rattle.entry_table.proofs.SeedLaws.{Counting, counting-start, counting-new, counting-known, counting-end}
+use Rattle.entry_table.proofs.carved.new_keys.Statement.{statement}
+use Rattle.entry_table.proofs.carved.new_keys.Tie as tie
+
+abbrev Inv-loop : tie.InvT-loop
+Inv-loop slots used entries count n₀ i₀ n i = Counting (table slots used) entries n i
+
+abbrev μ-loop : tie.MeasureT-loop
+μ-loop slots used entries count n₀ i₀ n i = count - i
+
+loop-holds : tie.Need-loop-holds Inv-loop μ-loop
+loop-holds c = counting-start _ _
+
+carved-key-requires : tie.Need-carved-key-requires Inv-loop μ-loop
+carved-key-requires c κs = omega arith
+
+is-seen-requires : tie.Need-is-seen-requires Inv-loop μ-loop
+is-seen-requires c κs = (omega arith, omega arith)
+
+add-n : tie.Need-add-n Inv-loop μ-loop
+add-n c = omega arith
+
+add-i : tie.Need-add-i Inv-loop μ-loop
+add-i c = omega arith
+
+loop-less : tie.Need-loop-less Inv-loop μ-loop
+loop-less c = omega arith
+
+loop-again : tie.Need-loop-again Inv-loop μ-loop
+loop-again c = ⊎-elim (λ w. counting-new (c .before .before .before .before .loop .inv) (c .before .before .before .loop-test .taken) (c .before .before .carved-key .ensures) (c .before .is-seen .ensures) (not-true _ (w .0 .taken)) (w .1)) (λ w. counting-known (c .before .before .before .before .loop .inv) (c .before .before .before .loop-test .taken) (c .before .before .carved-key .ensures) (c .before .is-seen .ensures) (not-false _ (w .0 .left)) (w .1)) (c .if1 .came)
+
+returns : tie.Need-returns Inv-loop μ-loop
+returns c = counting-end (c .before .loop .inv) (c .loop-test .left)
+
+pub new-keys-spec : {M : Type 1} → statement M
+new-keys-spec =
+    tie.close
+    (tie.spec
+    Inv-loop
+    μ-loop
+    loop-holds
+    carved-key-requires
+    is-seen-requires
+    add-n
+    add-i
+    loop-less
+    loop-again
+    returns)

@@ -1,0 +1,48 @@
+-- Seeding: the image carver's flat list of entries, nine words an entry, added if absent.
+use Prim.Native.Nat.{ℕ, zero, suc, _+_, _*_, _/_}
+use mathlib.Core.List.{List}
+use mathlib.Core.Bool.{Bool, false, _||_}
+use lib.ListN.{length, getD}
+use Rattle.walk.specs.Outcome.{Outcome}
+use Rattle.entry_table.specs.Names.{Lengths}
+use Rattle.entry_table.specs.Slots.{sameKey, rows}
+use Rattle.entry_table.specs.Table.{Table, known, Addition, addition}
+use Rattle.entry_table.specs.Storing.{storing}
+use Rattle.entry_table.specs.declared.EntryKey.{EntryKey}
+use Rattle.entry_table.specs.declared.EntryInfo.{EntryInfo}
+
+-- the words of a carved entry: offset, entry number, sequence, name offset, name length, parent entry, parent sequence, directory, in use
+abbrev pub row : ℕ
+row = 9
+
+-- the source of its name: the image
+abbrev pub imageSource : ℕ
+imageSource = 1
+
+-- the key of carved entry i, and what it says of it
+abbrev pub carvedKey : List ℕ → ℕ → EntryKey
+carvedKey es i = record { entry = getD es (i * row + 1) 0; sequence = getD es (i * row + 2) 0 }
+
+abbrev pub carvedInfo : List ℕ → ℕ → EntryInfo
+carvedInfo es i =
+    record {
+      parent = record { entry = getD es (i * row + 5) 0; sequence = getD es (i * row + 6) 0 };
+      name = record { source = imageSource; offset = getD es (i * row + 3) 0; length = getD es (i * row + 4) 0 };
+    }
+
+-- it never replaces
+abbrev pub carvedAt : List ℕ → ℕ → Addition
+carvedAt es i = addition (carvedKey es i) (carvedInfo es i) false
+
+-- the whole entries of a list
+abbrev pub carvedIn : List ℕ → List Addition
+carvedIn es = rows (carvedAt es) 0 (length es / row)
+
+-- seeding stores them all, or none
+abbrev pub seeding : Lengths → Table → List ℕ → Outcome Table
+seeding ls t es = storing ls t (carvedIn es)
+
+-- a key is in the table or among the first i carved entries
+unfoldable pub seen : Table → List ℕ → ℕ → EntryKey → Bool
+seen t es zero k = known t k
+seen t es (suc i) k = seen t es i k || sameKey (carvedKey es i) k

@@ -1,0 +1,125 @@
+// The slots of a table: what stands in one, the slot of a key, and the store of an entry.
+ghost use mathlib.Core.Path.{_≡_};
+ghost use mathlib.Core.List.{[], _∷_};
+ghost use Prim.Native.Nat.{_+_, _*_, _≤_};
+ghost use lib.ListN.{length};
+ghost use Rattle.entry_table.specs.Slots.{stride, slotsIn, sameKey, keyIn, keyAt, infoAt, putAt};
+ghost use Rattle.entry_table.specs.Table.{table, find, addition};
+ghost use Rattle.entry_table.specs.Storing.{adding, usedAfter, wordsAfter, outcome};
+use crate::EntryInfo;
+use crate::EntryKey;
+use crate::NamePlace;
+use crate::Stored;
+use walk::TABLE_FULL;
+use walk::put_words;
+
+// The words of a slot.
+pub const STRIDE: usize = 7;
+
+// Where a key stands: in a slot, or in none.
+pub enum Found {
+    At(usize),
+    Nothing,
+}
+
+// Whether two keys are the same.
+pub fn same_key(a: EntryKey, b: EntryKey) -> bool
+    ensures { λ r. ⌜ r ≡ sameKey a b ⌝ }
+{
+    if a.entry == b.entry {
+        return a.sequence == b.sequence;
+    }
+    false
+}
+
+// The key that stands from word p on.
+fn key_in(words: &[u64], p: usize) -> EntryKey
+    requires { ⌜ p + 2 ≤ length (now words) ⌝ }
+    ensures { λ r. ⌜ r ≡ keyIn (now (words .entry)) p ⌝ }
+{
+    EntryKey {
+        entry: words[p],
+        sequence: words[p + 1],
+    }
+}
+
+// The key in slot i.
+pub fn key_at(slots: &[u64], i: usize) -> EntryKey
+    requires { ⌜ i * stride + stride ≤ length (now slots) ⌝ }
+    ensures { λ r. ⌜ r ≡ keyAt (now (slots .entry)) i ⌝ }
+{
+    key_in(slots, i * STRIDE)
+}
+
+// What slot i says of its key.
+pub fn info_at(slots: &[u64], i: usize) -> EntryInfo
+    requires { ⌜ i * stride + stride ≤ length (now slots) ⌝ }
+    ensures { λ r. ⌜ r ≡ infoAt (now (slots .entry)) i ⌝ }
+{
+    let at = i * STRIDE;
+    let parent = key_in(slots, at + 2);
+    let name = NamePlace {
+        source: slots[at + 4],
+        offset: slots[at + 5],
+        length: slots[at + 6],
+    };
+    EntryInfo { parent, name }
+}
+
+// The slot of a key: the lowest used one that has it.
+pub fn find(slots: &[u64], used: usize, key: EntryKey) -> Found
+    requires { ⌜ used * stride ≤ length (now slots) ⌝ }
+    ensures { λ r. ⌜ r ≡ find (table (now (slots .entry)) used) key ⌝ }
+{
+    let mut i: usize = 0;
+    while i < used {
+        if same_key(key_at(slots, i), key) {
+            return Found::At(i);
+        }
+        i += 1;
+    }
+    Found::Nothing
+}
+
+// An entry into slot i.
+fn put(slots: &mut [u64], i: usize, key: EntryKey, info: EntryInfo)
+    requires { ⌜ i * stride + stride ≤ length (now slots) ⌝ }
+    ensures { λ _. ⌜ now (slots .exit) ≡ putAt (now (slots .entry)) i key info ⌝ }
+{
+    let parent = info.parent;
+    let name = info.name;
+    let words = [
+        key.entry,
+        key.sequence,
+        parent.entry,
+        parent.sequence,
+        name.source,
+        name.offset,
+        name.length,
+    ];
+    put_words(slots, i * STRIDE, &words);
+}
+
+// An entry under its key. A known one is replaced, or left alone where replace is false; a new one takes the first slot that
+// is not used. Refused, with nothing written: 6 the key is new and no slot is left.
+pub fn add(slots: &mut [u64], used: usize, key: EntryKey, info: EntryInfo, replace: bool) -> Stored
+    requires { ⌜ used ≤ slotsIn (now slots) ⌝ }
+    ensures { λ r. ⌜ outcome r ≡ usedAfter (adding (table (now (slots .entry)) used) (addition key info replace ∷ [])) ⌝ }
+    ensures { λ _. ⌜ now (slots .exit) ≡ wordsAfter (adding (table (now (slots .entry)) used) (addition key info replace ∷ [])) (now (slots .entry)) ⌝ }
+{
+    match find(slots, used, key) {
+        Found::At(i) => {
+            if replace {
+                put(slots, i, key, info);
+            }
+            Stored::Used(used)
+        }
+        Found::Nothing => {
+            if used < slots.len() / STRIDE {
+                put(slots, used, key, info);
+                return Stored::Used(used + 1);
+            }
+            Stored::Refused(TABLE_FULL)
+        }
+    }
+}
