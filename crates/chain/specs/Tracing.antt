@@ -7,7 +7,7 @@ use lib.Dec.{ltb, leb}
 use Rattle.walk.specs.Outcome.{Outcome, refused, answered}
 use Rattle.walk.specs.Lists.{overwrite}
 use Rattle.walk.specs.Refusals.{aboveDomain, nameOutside, badState, domain}
-use Rattle.entry_table.specs.Names.{Lengths, inside, allInside}
+use Rattle.entry_table.specs.Names.{Lengths, allInside}
 use Rattle.entry_table.specs.Slots.{slotsIn, infosIn}
 use Rattle.entry_table.specs.Table.{Table}
 use Rattle.entry_table.specs.declared.EntryKey.{EntryKey}
@@ -28,10 +28,6 @@ tracing ls t depth k =
     (cond (ltb (slotsIn (t .words)) (t .used)) (refused badState)
     (cond (not (allInside ls (infosIn (t .words) (t .used)))) (refused nameOutside)
     (answered (chainOf t depth k))))
-
--- a name's place: 1; 7: it is outside its slice
-unfoldable pub placing : Lengths → NamePlace → Outcome NamePlace
-placing ls p = inDomain ls (cond (not (inside ls p)) (refused nameOutside) (answered p))
 
 -- the words with the chain's places in front, where there is room for all of them
 unfoldable pub listed : List ℕ → List NamePlace → List ℕ
