@@ -1,8 +1,13 @@
-//! Our readers, timed.
+//! Our calls, timed.
 
-use crate::library::{self, ACCEPTED, ANSWER_WORDS, BUF_SIZE, END, READER_WORDS, RECORD, WANTS, WORDS};
+use crate::layout::ENTRY;
+use crate::library::{
+    self, ACCEPTED, ANSWER_WORDS, BUF_SIZE, END, ENTRY_NAME, ENTRY_WORDS, READER_WORDS, RECORD, WANTS, WORDS,
+};
+use crate::names::{Names, LONGEST_TEXT};
 use crate::{clock, Sum};
 use std::hint::black_box;
+use std::iter;
 use std::time::Duration;
 
 /// A reader that lists the places of records.
@@ -142,4 +147,154 @@ fn give(journal: &[u8], delivery: usize, reader: &mut [u64], buffer: &mut [u8], 
         let answer = library::usn_reader_give(reader, buffer, bytes, out);
         assert_eq!(answer, ACCEPTED, "no more is given than is wanted");
     }
+}
+
+/// How much is lent to the carver of entries: a list for any image of this length, and the texts of so many names.
+#[derive(Clone, Copy)]
+pub struct ImageRoom {
+    pub image: usize,
+    pub entries: usize,
+}
+
+/// What is lent to the carver of entries, and to the decoder for the names.
+pub struct ImageMemory {
+    list: Vec<u64>,
+    texts: Texts,
+}
+
+impl ImageRoom {
+    /// The same with a list that the entries just fill.
+    pub fn just_full(self) -> Self {
+        Self {
+            image: ENTRY * self.entries,
+            ..self
+        }
+    }
+
+    /// Memory that the system has not given pages to.
+    pub fn fresh(self) -> ImageMemory {
+        ImageMemory {
+            list: vec![0; ENTRY_WORDS * (self.image / ENTRY)],
+            texts: Texts::fresh(self.entries),
+        }
+    }
+
+    /// Memory that has been written.
+    pub fn cleared(self) -> ImageMemory {
+        let mut memory = black_box(self.fresh());
+        memory.list.fill(0);
+        memory.texts.clear();
+        memory
+    }
+}
+
+/// The list alone is timed.
+pub fn image_list(image: &[u8], mut memory: ImageMemory) -> (Duration, Sum) {
+    let (time, entries) = clock(|| carved(image, &mut memory));
+    entry_texts(image, &mut memory, entries);
+    (time, memory.sum(entries))
+}
+
+/// The list and the text of each name are timed.
+pub fn image_list_and_text(image: &[u8], mut memory: ImageMemory) -> (Duration, Sum) {
+    let (time, entries) = clock(|| {
+        let entries = carved(image, &mut memory);
+        entry_texts(image, &mut memory, entries);
+        entries
+    });
+    (time, memory.sum(entries))
+}
+
+/// Lists the entries of an image; gives how many there are.
+fn carved(image: &[u8], memory: &mut ImageMemory) -> usize {
+    let mut out = [0; 4];
+    let answer = library::mft_carve_entries(image, &mut memory.list, &mut out);
+    assert_eq!(answer, ACCEPTED, "the list has room");
+    out[2] as usize
+}
+
+/// Writes the text of each listed entry's name.
+fn entry_texts(image: &[u8], memory: &mut ImageMemory, entries: usize) {
+    let places = memory.list.chunks_exact(ENTRY_WORDS).take(entries);
+    memory.texts.write(places.map(|words| {
+        let [offset, length] = [words[ENTRY_NAME], words[ENTRY_NAME + 1]].map(|word| word as usize);
+        &image[offset..offset + length]
+    }));
+}
+
+impl ImageMemory {
+    fn sum(&self, entries: usize) -> Sum {
+        let mut sum = Sum::default();
+        let listed = self.list.chunks_exact(ENTRY_WORDS).take(entries);
+        for (words, text) in listed.zip(self.texts.iter()) {
+            sum.add_entry([words[1], words[2], words[5]], text);
+        }
+        sum
+    }
+}
+
+/// The texts of names one after another, and where each of them ends.
+struct Texts {
+    text: Vec<u8>,
+    ends: Vec<usize>,
+}
+
+impl Texts {
+    /// Room for the texts of so many names, in memory that the system has not given pages to.
+    fn fresh(names: usize) -> Self {
+        Self {
+            text: vec![0; LONGEST_TEXT * names],
+            ends: vec![0; names],
+        }
+    }
+
+    fn clear(&mut self) {
+        self.text.fill(0);
+        self.ends.fill(0);
+    }
+
+    /// Writes the text of each name.
+    fn write<'a>(&mut self, names: impl Iterator<Item = &'a [u8]>) {
+        let mut at = 0;
+        for (name, end) in names.zip(&mut self.ends) {
+            at += decoded(name, &mut self.text[at..]);
+            *end = at;
+        }
+    }
+
+    fn iter(&self) -> impl Iterator<Item = &[u8]> {
+        let starts = iter::once(0).chain(self.ends.iter().copied());
+        starts.zip(&self.ends).map(|(start, &end)| &self.text[start..end])
+    }
+}
+
+/// Writes the text of a name; gives its length.
+fn decoded(name: &[u8], text: &mut [u8]) -> usize {
+    let mut out = [0];
+    let answer = library::utf16_decode(name, text, &mut out);
+    assert_eq!(answer, ACCEPTED, "the text has room");
+    out[0] as usize
+}
+
+/// The texts of all names are kept.
+pub fn names(names: &Names) -> (Duration, Sum) {
+    let mut texts = black_box(Texts::fresh(names.ends.len()));
+    texts.clear();
+    let (time, ()) = clock(|| texts.write(names.iter()));
+    let mut sum = Sum::default();
+    texts.iter().for_each(|text| sum.add_text(text));
+    (time, sum)
+}
+
+/// Each text takes the place of the one before it.
+pub fn names_one_by_one(names: &Names) -> (Duration, Sum) {
+    let mut text = [0; LONGEST_TEXT];
+    clock(|| {
+        let mut sum = Sum::default();
+        for name in names.iter() {
+            let length = decoded(name, &mut text);
+            sum.add_text(&text[..length]);
+        }
+        sum
+    })
 }

@@ -1,5 +1,7 @@
-//! The Rust's readers, timed: each call as it is. What it gives is dropped outside the time.
+//! The Rust's calls, timed, each as it is. What it gives is dropped outside the time.
 
+use crate::carve::carve_mft_entries;
+use crate::names::Names;
 use crate::usn::carver::carve_usn_records;
 use crate::usn::reader::UsnJournalReader;
 use crate::usn::record::parse_usn_journal;
@@ -68,4 +70,37 @@ fn add(sum: &mut Sum, record: &UsnRecord) {
         seconds,
         record.reason.bits().into(),
     ]);
+}
+
+pub fn image(image: &[u8]) -> (Duration, Sum) {
+    let (time, (entries, _)) = clock(|| carve_mft_entries(image));
+    let mut sum = Sum::default();
+    for entry in &entries {
+        let fields = [entry.entry_number, entry.sequence_number.into(), entry.parent_entry];
+        sum.add_entry(fields, entry.filename.as_bytes());
+    }
+    (time, sum)
+}
+
+/// The texts of all names are kept.
+pub fn names(names: &Names) -> (Duration, Sum) {
+    let (time, texts) = clock(|| names.iter().map(decoded).collect::<Vec<String>>());
+    let mut sum = Sum::default();
+    texts.iter().for_each(|text| sum.add_text(text.as_bytes()));
+    (time, sum)
+}
+
+/// Each text is dropped before the next one is made.
+pub fn names_one_by_one(names: &Names) -> (Duration, Sum) {
+    clock(|| {
+        let mut sum = Sum::default();
+        names.iter().for_each(|name| sum.add_text(decoded(name).as_bytes()));
+        sum
+    })
+}
+
+/// The text of a name, by the lines with which the original's readers decode one.
+fn decoded(name: &[u8]) -> String {
+    let u16_chars: Vec<u16> = name.chunks_exact(2).map(|c| u16::from_le_bytes([c[0], c[1]])).collect();
+    String::from_utf16_lossy(&u16_chars)
 }

@@ -66,9 +66,11 @@ impl Table {
     pub fn print(&self) {
         println!("Best of {REPETITIONS}; MB is 1000000 bytes.");
         println!(
-            "Our list, fields and buffer are cleared before the time begins, unless the row says uncleared; the Rust"
+            "Our list, fields, text and buffer are cleared before the time begins, unless the row says uncleared;"
         );
-        println!("takes its memory within the time. Names are places with ours and text with the Rust.");
+        println!(
+            "the Rust takes its memory within the time. Its names are text; ours are places, unless the row says text."
+        );
         println!();
         println!("| {:<34} | ours MB/s | the Rust's MB/s | ratio |", "what");
         println!("|{:-<36}|----------:|----------------:|------:|", "");

@@ -3,7 +3,7 @@
 use Prim.Native.Nat.{ℕ, _+_, _≤_, _<_}
 use mathlib.Core.Path.{_≡_, refl, ap, sym, _∙_}
 use mathlib.Core.List.{List, [], _∷_}
-use mathlib.Core.Bool.{Bool, true, false, cond, not, _&&_, _||_}
+use mathlib.Core.Bool.{Bool, true, false, cond, not, _||_}
 use native.Mathlib.Omega.{arith}
 use borrow.Author.Tests.{ltb-true, ltb-false, not-false}
 use lib.ListN.{length}
@@ -13,14 +13,14 @@ use Rattle.walk.specs.Refusals.{badState, nameOutside, tableFull}
 use Rattle.walk.proofs.ChoiceLaws.{cond-cases}
 use Rattle.entry_table.specs.Names.{Lengths, lengthsOf, inside, allInside}
 use Rattle.entry_table.specs.Slots.{slotsIn, sameKey}
-use Rattle.entry_table.specs.Table.{Table, known, Addition, addition, add, addAll}
-use Rattle.entry_table.specs.Storing.{newKeys, keysOf, infosOf, adding, storing, inserting}
+use Rattle.entry_table.specs.Table.{Table, entered, lookup, known, Addition, addition, add, addAll}
+use Rattle.entry_table.specs.Storing.{newKeys, keysOf, namesOf, adding, storing, inserting}
 use Rattle.entry_table.specs.InTurn.{andThen, inTurn}
 use Rattle.entry_table.specs.declared.EntryKey.{EntryKey}
 use Rattle.entry_table.specs.declared.EntryInfo.{EntryInfo}
 use Rattle.entry_table.proofs.TestLaws.{and-left, and-right}
 use Rattle.entry_table.proofs.StoringLaws.{adding-one, stored-inside}
-use Rattle.entry_table.proofs.TableLaws.{used-added, length-added, known-added}
+use Rattle.entry_table.proofs.TableLaws.{used-added, length-added, known-added, lookup-other, lookup-inserted, add-known}
 use Rattle.entry_table.proofs.CountLaws.{new-same, new-first, new-none, adding-room, Adding, adding-start, adding-slot, adding-next, used-all}
 use Rattle.entry_table.proofs.KeptLaws.{Kept, all-kept}
 
@@ -32,7 +32,7 @@ names-decide-nothing journal journal′ image image′ t xs e f = rw (e, f)
 -- what holds where a call goes ahead, and the table that it leaves
 pub record Accepted (ls : Lengths) (t : Table) (xs : List Addition) (u : Table) : Type 0 where
   pub fits : t .used ≤ slotsIn (t .words)
-  pub places : allInside ls (infosOf xs) ≡ true
+  pub places : allInside ls (namesOf xs) ≡ true
   pub room : t .used + newKeys (known t) (keysOf xs) ≤ slotsIn (t .words)
   pub leaves : u ≡ addAll t xs
 
@@ -47,7 +47,7 @@ module _ (ls : Lengths) (t : Table) (xs : List Addition) where
   unfolding storing adding
   stored-accepted {u} =
       cond-cases (λ (o : Outcome Table). o ≡ answered u → Accepted ls t xs u) (ltb (slotsIn (t .words)) (t .used)) (λ y e. never e)
-      (λ fits. cond-cases (λ (o : Outcome Table). o ≡ answered u → Accepted ls t xs u) (not (allInside ls (infosOf xs))) (λ y e. never e)
+      (λ fits. cond-cases (λ (o : Outcome Table). o ≡ answered u → Accepted ls t xs u) (not (allInside ls (namesOf xs))) (λ y e. never e)
       (λ places. cond-cases (λ (o : Outcome Table). o ≡ answered u → Accepted ls t xs u) (ltb (slotsIn (t .words)) (t .used + newKeys (known t) (keysOf xs))) (λ y e. never e)
       (λ room e.
       record {
@@ -68,6 +68,30 @@ accepted-keeps {ls} {t} {u} {xs} w = rw (w .leaves) (all-kept t xs)
 pub accepted-fits : {ls : Lengths} {t u : Table} {xs : List Addition} → Accepted ls t xs u → u .used ≤ slotsIn (u .words)
 accepted-fits w = omega (arith, accepted-used w, w .room, accepted-keeps w .long)
 
+-- an insertion that goes ahead is looked up again, and lookups of other keys stay as they were
+module _ (ls : Lengths) (t u : Table) (k : EntryKey) (info : EntryInfo) where
+  one-slot : (replace : Bool) → Accepted ls t (addition k info replace ∷ []) u → t .used + cond (known t k) 0 1 ≤ slotsIn (t .words)
+  one-slot replace w = adding-slot (adding-start t (addition k info replace ∷ []) (w .room)) refl
+
+  pub inserted-lookup : inserting ls t k info true ≡ answered u → lookup u k ≡ entered info
+  unfolding addAll
+  inserted-lookup e =
+      let w : Accepted ls t (addition k info true ∷ []) u = stored-accepted ls t (addition k info true ∷ []) e in
+      ap (λ (v : Table). lookup v k) (w .leaves) ∙ lookup-inserted t (addition k info true) (one-slot true w) refl
+
+  pub inserted-others : (replace : Bool) → inserting ls t k info replace ≡ answered u → (j : EntryKey) → sameKey k j ≡ false → lookup u j ≡ lookup t j
+  unfolding addAll
+  inserted-others replace e j apart =
+      let w : Accepted ls t (addition k info replace ∷ []) u = stored-accepted ls t (addition k info replace ∷ []) e in
+      ap (λ (v : Table). lookup v j) (w .leaves) ∙ lookup-other t (addition k info replace) (one-slot replace w) j apart
+
+  -- and one if absent changes nothing where the key is known
+  pub absent-known : known t k ≡ true → inserting ls t k info false ≡ answered u → u ≡ t
+  unfolding addAll
+  absent-known y e =
+      let w : Accepted ls t (addition k info false ∷ []) u = stored-accepted ls t (addition k info false ∷ []) e in
+      w .leaves ∙ add-known t (addition k info false) (one-slot false w) y refl
+
 -- an insertion says 6 only where its key is new and every slot is used
 pub record Full (t : Table) (k : EntryKey) : Type 0 where
   pub new : known t k ≡ false
@@ -77,7 +101,7 @@ pub inserted-full : (ls : Lengths) (t : Table) (k : EntryKey) (info : EntryInfo)
 unfolding storing
 inserted-full ls t k info replace =
     cond-cases (λ (o : Outcome Table). o ≡ refused tableFull → Full t k) (ltb (slotsIn (t .words)) (t .used)) (λ y e. other badState (λ z. omega arith) e)
-    (λ fits. cond-cases (λ (o : Outcome Table). o ≡ refused tableFull → Full t k) (not (allInside ls (infosOf (addition k info replace ∷ [])))) (λ y e. other nameOutside (λ z. omega arith) e)
+    (λ fits. cond-cases (λ (o : Outcome Table). o ≡ refused tableFull → Full t k) (not (allInside ls (namesOf (addition k info replace ∷ [])))) (λ y e. other nameOutside (λ z. omega arith) e)
     (λ places e. full (ltb-false _ _ fits) (sym (adding-one t (addition k info replace)) ∙ e)))
   where
     other : (n : ℕ) → (n ≡ tableFull → ⊥) → _≡_ {A = Outcome Table} (refused n) (refused tableFull) → Full t k
@@ -94,7 +118,7 @@ inserted-full ls t k info replace =
         go false x true y e = let h : slotsIn (t .words) < t .used + 1 = ltb-true _ _ (rw x at y) in record { new = x; all = omega arith }
 
 -- where all of a list can be stored, so can each entry by a call of its own, in turn
-accepted-in-turn : (ls : Lengths) (t : Table) (xs : List Addition) → allInside ls (infosOf xs) ≡ true → t .used + newKeys (known t) (keysOf xs) ≤ slotsIn (t .words)
+accepted-in-turn : (ls : Lengths) (t : Table) (xs : List Addition) → allInside ls (namesOf xs) ≡ true → t .used + newKeys (known t) (keysOf xs) ≤ slotsIn (t .words)
     → inTurn ls t xs ≡ answered (addAll t xs)
 unfolding inTurn addAll allInside
 accepted-in-turn ls t [] places room = refl
@@ -104,12 +128,12 @@ accepted-in-turn ls t (x ∷ xs) places room =
     accepted-stored ls t (x ∷ [])
     record {
       fits = omega arith;
-      places = rw (and-left (inside ls (x .info .name)) (allInside ls (infosOf xs)) places);
+      places = rw (and-left (inside ls (x .info .name)) (allInside ls (namesOf xs)) places);
       room = omega (arith, adding-slot w refl, new-first (known t) (x .key) [], new-none (λ j. known t j || sameKey (x .key) j));
       leaves = refl;
     } in
     rw one
-    (accepted-in-turn ls (add t x) xs (and-right (inside ls (x .info .name)) (allInside ls (infosOf xs)) places) (adding-next w refl .room))
+    (accepted-in-turn ls (add t x) xs (and-right (inside ls (x .info .name)) (allInside ls (namesOf xs)) places) (adding-next w refl .room))
 
 -- and where each call in turn goes ahead, so does storing all at once
 in-turn-accepted : (ls : Lengths) (t u : Table) (xs : List Addition) → inTurn ls t xs ≡ answered u → t .used ≤ slotsIn (t .words) → Accepted ls t xs u

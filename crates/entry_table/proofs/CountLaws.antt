@@ -1,12 +1,11 @@
 -- The count of new keys, and additions in turn for which there is room. Assumes nothing.
-use Prim.Native.Nat.{ℕ, suc, _+_, _≤_, _<_}
+use Prim.Native.Nat.{ℕ, _+_, _≤_}
 use mathlib.Core.Path.{_≡_, refl, ap, sym, _∙_}
 use mathlib.Core.List.{List, [], _∷_}
 use mathlib.Core.Bool.{Bool, true, false, cond, _||_}
 use native.Mathlib.Omega.{arith}
 use borrow.Author.Tests.{le-ltb}
 use lib.ListN.{length}
-use lib.Dec.{ltb}
 use Rattle.walk.specs.Outcome.{Outcome, refused, answered}
 use Rattle.entry_table.specs.Slots.{slotsIn, sameKey}
 use Rattle.entry_table.specs.Table.{Table, table, known, Addition, add, addAll}
@@ -85,12 +84,13 @@ unfolding addAll
 used-all t [] room = omega (arith, new-none (known t))
 used-all t (x ∷ xs) room =
     let w : Adding t t (x ∷ xs) (x ∷ xs) = adding-start t (x ∷ xs) room in
-    omega
-    (arith,
-    used-all (add t x) xs (adding-next w refl .room),
-    used-added t x (adding-slot w refl),
-    new-first (known t) (x .key) (keysOf xs),
-    new-same (known (add t x)) (λ j. known t j || sameKey (x .key) j) (known-added t x (adding-slot w refl)) (keysOf xs))
+    omega (
+      arith,
+      used-all (add t x) xs (adding-next w refl .room),
+      used-added t x (adding-slot w refl),
+      new-first (known t) (x .key) (keysOf xs),
+      new-same (known (add t x)) (λ j. known t j || sameKey (x .key) j) (known-added t x (adding-slot w refl)) (keysOf xs),
+    )
 
 pub adding-end : {t₀ t : Table} {todo all : List Addition} → Adding t₀ t todo all → todo ≡ [] → t ≡ addAll t₀ all
 unfolding addAll

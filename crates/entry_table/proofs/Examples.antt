@@ -2,11 +2,11 @@
 use Prim.Native.Nat.{ℕ}
 use mathlib.Core.Path.{_≡_, refl}
 use mathlib.Core.List.{List, [], _∷_}
-use mathlib.Core.Bool.{Bool, true, false}
-use Rattle.walk.specs.Outcome.{Outcome, refused, answered}
+use mathlib.Core.Bool.{true, false}
+use Rattle.walk.specs.Outcome.{refused, answered}
 use Rattle.entry_table.specs.Names.{Lengths, lengths, inside, allInside}
 use Rattle.entry_table.specs.Slots.{sameKey, putAt, findFrom, rows}
-use Rattle.entry_table.specs.Table.{Table, table, Lookup, unknown, entered, lookup, addFound, addAll}
+use Rattle.entry_table.specs.Table.{table, entered, lookup, addFound, addAll}
 use Rattle.entry_table.specs.Storing.{newKeys, adding, storing, inserting}
 use Rattle.entry_table.specs.Carved.{seeding}
 use Rattle.entry_table.specs.declared.EntryKey.{EntryKey}

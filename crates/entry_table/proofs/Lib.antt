@@ -10,3 +10,4 @@ pub mod SeedLaws
 pub mod KeptLaws
 pub mod CallLaws
 pub mod Examples
+pub mod CarverLaws

@@ -39,24 +39,24 @@ unfolding putAt
 put-after s j k e p h = sets-after (entryWords k e) s (j * stride) p h
 
 module _ (s : List ℕ) (j : ℕ) (k : EntryKey) (e : EntryInfo) (room : j * stride + stride ≤ length s) where
-  word : (r : ℕ) → r < stride → getD (putAt s j k e) (j * stride + r) 0 ≡ getD (entryWords k e) r 0
+  -- word r of the slot, at q
+  word : (q r : ℕ) → q ≡ j * stride + r → r < stride → getD (putAt s j k e) q 0 ≡ getD (entryWords k e) r 0
   unfolding putAt
-  word r h = sets-at (entryWords k e) s (j * stride) r h room
-
-  first : getD (putAt s j k e) (j * stride) 0 ≡ k .entry
-  first = rw add-zero at (word 0 (omega arith))
-
-  last : getD (putAt s j k e) (j * stride + 2 + 1) 0 ≡ e .parent .sequence
-  last = let m : j * stride + 2 + 1 ≡ j * stride + 3 = omega arith in rw m (word 3 (omega arith))
+  word q r at h = rw at (sets-at (entryWords k e) s (j * stride) r h room)
 
   pub put-key : keyAt (putAt s j k e) j ≡ k
-  put-key = λ z. record { entry = first z; sequence = word 1 (omega arith) z }
+  put-key = λ z. record { entry = word (j * stride) 0 (omega arith) (omega arith) z; sequence = word (j * stride + 1) 1 (omega arith) (omega arith) z }
 
   pub put-info : infoAt (putAt s j k e) j ≡ e
   put-info =
+      let p : ℕ = j * stride in
       λ z. record {
-        parent = record { entry = word 2 (omega arith) z; sequence = last z };
-        name = record { source = word 4 (omega arith) z; offset = word 5 (omega arith) z; length = word 6 (omega arith) z };
+        parent = record { entry = word (p + 2) 2 (omega arith) (omega arith) z; sequence = word (p + 2 + 1) 3 (omega arith) (omega arith) z };
+        name = record {
+          source = word (p + 4) 4 (omega arith) (omega arith) z;
+          offset = word (p + 4 + 1) 5 (omega arith) (omega arith) z;
+          length = word (p + 4 + 2) 6 (omega arith) (omega arith) z;
+        };
       }
 
 module _ (s : List ℕ) (j : ℕ) (k : EntryKey) (e : EntryInfo) (i : ℕ) (other : i ≡ j → ⊥) where
@@ -73,9 +73,12 @@ module _ (s : List ℕ) (j : ℕ) (k : EntryKey) (e : EntryInfo) (i : ℕ) (othe
 
   pub put-info-other : infoAt (putAt s j k e) i ≡ infoAt s i
   put-info-other =
-      let w : (r : ℕ) → r < stride → getD (putAt s j k e) (i * stride + r) 0 ≡ getD s (i * stride + r) 0 =
-      λ r h. word-other (i * stride + r) (omega arith) (omega arith) in
+      let p : ℕ = i * stride in
       λ z. record {
-        parent = record { entry = w 2 (omega arith) z; sequence = word-other (i * stride + 2 + 1) (omega arith) (omega arith) z };
-        name = record { source = w 4 (omega arith) z; offset = w 5 (omega arith) z; length = w 6 (omega arith) z };
+        parent = record { entry = word-other (p + 2) (omega arith) (omega arith) z; sequence = word-other (p + 2 + 1) (omega arith) (omega arith) z };
+        name = record {
+          source = word-other (p + 4) (omega arith) (omega arith) z;
+          offset = word-other (p + 4 + 1) (omega arith) (omega arith) z;
+          length = word-other (p + 4 + 2) (omega arith) (omega arith) z;
+        };
       }

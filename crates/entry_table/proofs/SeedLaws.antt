@@ -1,8 +1,8 @@
 -- Seeding: the count of a carved list's new keys, and its additions in turn. Assumes nothing.
-use Prim.Native.Nat.{ℕ, zero, suc, _+_, _-_, _*_, _/_, _≤_, _<_}
+use Prim.Native.Nat.{ℕ, zero, suc, _+_, _-_, _/_, _≤_, _<_}
 use mathlib.Core.Path.{_≡_, refl, ap, sym, _∙_}
 use mathlib.Core.List.{List, [], _∷_}
-use mathlib.Core.Bool.{Bool, true, false, cond, _||_, or-true}
+use mathlib.Core.Bool.{Bool, true, false, cond, _||_}
 use native.Mathlib.Omega.{arith}
 use native.Mathlib.Nat.{add-zero, add-suc, add-comm, zero-add, sub-zero}
 use native.Mathlib.Numerals.{add-one}
@@ -11,7 +11,7 @@ use lib.ListN.{length}
 use lib.Dec.{leb}
 use Rattle.walk.specs.Outcome.{Outcome, refused, answered}
 use Rattle.entry_table.specs.Slots.{slotsIn, sameKey, rows}
-use Rattle.entry_table.specs.Table.{Table, table, find, isAt, known, Addition, addition, add, addAll}
+use Rattle.entry_table.specs.Table.{Table, table, find, isAt, known, Addition, addition}
 use Rattle.entry_table.specs.Storing.{newKeys, keysOf, adding, usedAfter, wordsAfter}
 use Rattle.entry_table.specs.Carved.{row, carvedKey, carvedInfo, carvedAt, carvedIn, seen}
 use Rattle.entry_table.specs.declared.EntryKey.{EntryKey}

@@ -1,19 +1,18 @@
 -- The calls that store: each way out by its tests. Assumes nothing.
-use Prim.Native.Nat.{ℕ, suc, _+_, _*_, _≤_, _<_}
-use mathlib.Core.Path.{_≡_, refl, ap, sym, _∙_}
+use Prim.Native.Nat.{ℕ, _+_, _≤_, _<_}
+use mathlib.Core.Path.{_≡_, _∙_}
 use mathlib.Core.List.{List, [], _∷_}
-use mathlib.Core.Bool.{Bool, true, false, cond, not}
+use mathlib.Core.Bool.{true, false, cond}
 use native.Mathlib.Omega.{arith}
 use native.Mathlib.Nat.{add-zero}
 use borrow.Author.Tests.{lt-ltb, le-ltb}
-use lib.ListN.{length}
 use lib.Dec.{ltb}
 use Rattle.walk.specs.Outcome.{Outcome, refused, answered}
 use Rattle.walk.specs.Refusals.{badState, nameOutside, tableFull}
 use Rattle.entry_table.specs.Names.{Lengths, allInside}
 use Rattle.entry_table.specs.Slots.{slotsIn, putAt}
 use Rattle.entry_table.specs.Table.{Table, table, find, known, Addition, addFound, add, addAll}
-use Rattle.entry_table.specs.Storing.{newKeys, keysOf, infosOf, adding, storing, usedAfter, wordsAfter}
+use Rattle.entry_table.specs.Storing.{newKeys, keysOf, namesOf, adding, storing, usedAfter, wordsAfter}
 use Rattle.entry_table.specs.declared.slots.Found.{Found}
 use Rattle.entry_table.specs.declared.slots.Found.the-variants.{At, Nothing}
 
@@ -58,10 +57,10 @@ module _ (ls : Lengths) (t : Table) (xs : List Addition) where
   unfolding storing
   stored-bad-state h = rw (storing, lt-ltb _ _ h)
 
-  pub stored-outside : t .used ≤ slotsIn (t .words) → allInside ls (infosOf xs) ≡ false → storing ls t xs ≡ refused nameOutside
+  pub stored-outside : t .used ≤ slotsIn (t .words) → allInside ls (namesOf xs) ≡ false → storing ls t xs ≡ refused nameOutside
   unfolding storing
   stored-outside h e = rw (storing, le-ltb _ _ h, e)
 
-  pub stored-inside : t .used ≤ slotsIn (t .words) → allInside ls (infosOf xs) ≡ true → storing ls t xs ≡ adding t xs
+  pub stored-inside : t .used ≤ slotsIn (t .words) → allInside ls (namesOf xs) ≡ true → storing ls t xs ≡ adding t xs
   unfolding storing
   stored-inside h e = rw (storing, le-ltb _ _ h, e)

@@ -1,5 +1,5 @@
 -- The table as a map: what is known after an addition, and what is looked up. Assumes nothing.
-use Prim.Native.Nat.{ℕ, suc, _+_, _*_, _≤_, _<_}
+use Prim.Native.Nat.{ℕ, _+_, _*_, _≤_, _<_}
 use mathlib.Core.Path.{_≡_, refl, ap, sym, _∙_, subst}
 use mathlib.Core.List.{List}
 use mathlib.Core.Bool.{Bool, true, false, cond, _||_, true≢false, or-true, or-false}
@@ -9,12 +9,12 @@ use native.Mathlib.Numerals.{add-one}
 use borrow.Author.Tests.{eqb-true, eqb-false}
 use lib.ListN.{length}
 use lib.Dec.{eqb}
-use Rattle.entry_table.specs.Slots.{stride, slotsIn, sameKey, keyAt, infoAt, putAt, findFrom}
-use Rattle.entry_table.specs.Table.{Table, table, find, Lookup, unknown, entered, lookupFound, lookup, isAt, known, Addition, addFound, add}
+use Rattle.entry_table.specs.Slots.{stride, slotsIn, sameKey, keyAt, putAt}
+use Rattle.entry_table.specs.Table.{Table, table, find, entered, lookupFound, lookup, isAt, known, Addition, addFound, add}
 use Rattle.entry_table.specs.declared.EntryKey.{EntryKey}
 use Rattle.entry_table.specs.declared.slots.Found.{Found}
 use Rattle.entry_table.specs.declared.slots.Found.the-variants.{At, Nothing}
-use Rattle.entry_table.proofs.FindLaws.{same-equal, same-self, Lowest, find-at, find-keys, orAt, find-more}
+use Rattle.entry_table.proofs.FindLaws.{same-equal, same-self, find-at, find-keys, orAt, find-more}
 use Rattle.entry_table.proofs.PutLaws.{length-put, put-key, put-info, put-key-other, put-info-other}
 
 -- a slot that is found is one of the used ones

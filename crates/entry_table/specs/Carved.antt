@@ -4,31 +4,33 @@ use mathlib.Core.List.{List}
 use mathlib.Core.Bool.{Bool, false, _||_}
 use lib.ListN.{length, getD}
 use Rattle.walk.specs.Outcome.{Outcome}
+use Rattle.mft_carver.specs.Carve.{stride}
+use Rattle.mft_carver.specs.declared.CarvedMftEntry.{CarvedMftEntry}
 use Rattle.entry_table.specs.Names.{Lengths}
-use Rattle.entry_table.specs.Slots.{sameKey, rows}
+use Rattle.entry_table.specs.Slots.{sameKey, keyIn, rows}
 use Rattle.entry_table.specs.Table.{Table, known, Addition, addition}
 use Rattle.entry_table.specs.Storing.{storing}
 use Rattle.entry_table.specs.declared.EntryKey.{EntryKey}
+use Rattle.entry_table.specs.declared.NamePlace.{NamePlace}
 use Rattle.entry_table.specs.declared.EntryInfo.{EntryInfo}
 
 -- the words of a carved entry: offset, entry number, sequence, name offset, name length, parent entry, parent sequence, directory, in use
 abbrev pub row : ℕ
-row = 9
+row = stride
 
 -- the source of its name: the image
 abbrev pub imageSource : ℕ
 imageSource = 1
 
--- the key of carved entry i, and what it says of it
+-- the key of carved entry i, where its name lies, and what it says of the key
 abbrev pub carvedKey : List ℕ → ℕ → EntryKey
-carvedKey es i = record { entry = getD es (i * row + 1) 0; sequence = getD es (i * row + 2) 0 }
+carvedKey es i = keyIn es (i * row + 1)
+
+abbrev pub carvedName : List ℕ → ℕ → NamePlace
+carvedName es i = record { source = imageSource; offset = getD es (i * row + 3) 0; length = getD es (i * row + 4) 0 }
 
 abbrev pub carvedInfo : List ℕ → ℕ → EntryInfo
-carvedInfo es i =
-    record {
-      parent = record { entry = getD es (i * row + 5) 0; sequence = getD es (i * row + 6) 0 };
-      name = record { source = imageSource; offset = getD es (i * row + 3) 0; length = getD es (i * row + 4) 0 };
-    }
+carvedInfo es i = record { parent = keyIn es (i * row + 5); name = carvedName es i }
 
 -- it never replaces
 abbrev pub carvedAt : List ℕ → ℕ → Addition
@@ -37,6 +39,16 @@ carvedAt es i = addition (carvedKey es i) (carvedInfo es i) false
 -- the whole entries of a list
 abbrev pub carvedIn : List ℕ → List Addition
 carvedIn es = rows (carvedAt es) 0 (length es / row)
+
+-- what a carved entry adds
+abbrev pub additionOf : CarvedMftEntry → Addition
+additionOf x =
+    addition (record { entry = x .«entry_number»; sequence = x .«sequence_number» })
+    (record {
+      parent = record { entry = x .«parent_entry»; sequence = x .«parent_sequence» };
+      name = record { source = imageSource; offset = x .filename .offset; length = x .filename .length };
+    })
+    false
 
 -- seeding stores them all, or none
 abbrev pub seeding : Lengths → Table → List ℕ → Outcome Table

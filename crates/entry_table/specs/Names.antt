@@ -5,7 +5,6 @@ use mathlib.Core.Bool.{Bool, true, cond, _&&_}
 use lib.ListN.{length}
 use lib.Dec.{leb, eqb}
 use Rattle.entry_table.specs.declared.NamePlace.{NamePlace}
-use Rattle.entry_table.specs.declared.EntryInfo.{EntryInfo}
 
 -- source 0 is the journal, any other the image
 abbrev pub sourceOf : {A : Type 0} → A → A → ℕ → A
@@ -31,7 +30,7 @@ lengthOf ls source = sourceOf (ls .journal) (ls .image) source
 unfoldable pub inside : Lengths → NamePlace → Bool
 inside ls p = leb (p .offset + p .length) (lengthOf ls (p .source))
 
--- the names of all these entries do
-unfoldable pub allInside : Lengths → List EntryInfo → Bool
+-- all of these do
+unfoldable pub allInside : Lengths → List NamePlace → Bool
 allInside ls [] = true
-allInside ls (e ∷ es) = inside ls (e .name) && allInside ls es
+allInside ls (p ∷ ps) = inside ls p && allInside ls ps

@@ -6,6 +6,7 @@ use lib.ListN.{length, getD}
 use lib.Seq.{sets}
 use lib.Dec.{eqb}
 use Rattle.entry_table.specs.declared.EntryKey.{EntryKey}
+use Rattle.entry_table.specs.declared.NamePlace.{NamePlace}
 use Rattle.entry_table.specs.declared.EntryInfo.{EntryInfo}
 use Rattle.entry_table.specs.declared.slots.Found.{Found}
 use Rattle.entry_table.specs.declared.slots.Found.the-variants.{At, Nothing}
@@ -22,22 +23,22 @@ slotsIn s = length s / stride
 unfoldable pub sameKey : EntryKey → EntryKey → Bool
 sameKey a b = eqb (a .entry) (b .entry) && eqb (a .sequence) (b .sequence)
 
--- the key that stands from word p on
+-- the key, and the name's place, that stand from word p on
 abbrev pub keyIn : List ℕ → ℕ → EntryKey
 keyIn s p = record { entry = getD s p 0; sequence = getD s (p + 1) 0 }
 
--- the key in slot i
+abbrev pub nameIn : List ℕ → ℕ → NamePlace
+nameIn s p = record { source = getD s p 0; offset = getD s (p + 1) 0; length = getD s (p + 2) 0 }
+
+-- the key in slot i, where its name lies, and what the slot says of the key
 abbrev pub keyAt : List ℕ → ℕ → EntryKey
 keyAt s i = keyIn s (i * stride)
 
--- what slot i says of its key: the parent, and where the name lies
+abbrev pub nameAt : List ℕ → ℕ → NamePlace
+nameAt s i = nameIn s (i * stride + 4)
+
 abbrev pub infoAt : List ℕ → ℕ → EntryInfo
-infoAt s i =
-    let at = i * stride in
-    record {
-      parent = keyIn s (at + 2);
-      name = record { source = getD s (at + 4) 0; offset = getD s (at + 5) 0; length = getD s (at + 6) 0 };
-    }
+infoAt s i = record { parent = keyIn s (i * stride + 2); name = nameAt s i }
 
 -- the words of a key, and those of an entry: its key, its parent, its name's source, offset and length
 abbrev pub keyWords : EntryKey → List ℕ
@@ -60,6 +61,6 @@ unfoldable pub rows : {A : Type 0} → (ℕ → A) → ℕ → ℕ → List A
 rows f i zero = []
 rows f i (suc n) = f i ∷ rows f (i + 1) n
 
--- what the first n slots say of their keys
-abbrev pub infosIn : List ℕ → ℕ → List EntryInfo
-infosIn s n = rows (infoAt s) 0 n
+-- where the names of the first n slots lie
+abbrev pub namesIn : List ℕ → ℕ → List NamePlace
+namesIn s n = rows (nameAt s) 0 n

@@ -9,6 +9,7 @@ use Rattle.entry_table.specs.Names.{Lengths, allInside}
 use Rattle.entry_table.specs.Slots.{slotsIn, sameKey}
 use Rattle.entry_table.specs.Table.{Table, known, Addition, addition, addAll}
 use Rattle.entry_table.specs.declared.EntryKey.{EntryKey}
+use Rattle.entry_table.specs.declared.NamePlace.{NamePlace}
 use Rattle.entry_table.specs.declared.EntryInfo.{EntryInfo}
 use Rattle.entry_table.specs.declared.Stored.{Stored}
 use Rattle.entry_table.specs.declared.Stored.the-variants.{Used, Refused}
@@ -21,8 +22,8 @@ newKeys isKnown (k ∷ ks) = cond (isKnown k) 0 1 + newKeys (λ j. isKnown j || 
 abbrev pub keysOf : List Addition → List EntryKey
 keysOf xs = map (λ (a : Addition). a .key) xs
 
-abbrev pub infosOf : List Addition → List EntryInfo
-infosOf xs = map (λ (a : Addition). a .info) xs
+abbrev pub namesOf : List Addition → List NamePlace
+namesOf xs = map (λ (a : Addition). a .info .name) xs
 
 -- 6: the used slots plus the different keys to be added exceed the slots; else all are added in turn
 unfoldable pub adding : Table → List Addition → Outcome Table
@@ -34,7 +35,7 @@ adding t xs =
 unfoldable pub storing : Lengths → Table → List Addition → Outcome Table
 storing ls t xs =
     cond (ltb (slotsIn (t .words)) (t .used)) (refused badState)
-    (cond (not (allInside ls (infosOf xs))) (refused nameOutside)
+    (cond (not (allInside ls (namesOf xs))) (refused nameOutside)
     (adding t xs))
 
 -- insert replaces a known entry, and insert if absent does not

@@ -6,8 +6,8 @@ ghost use lib.Dec.{leb};
 ghost use Rattle.entry_table.specs.Names.{lengths, allInside};
 ghost use Rattle.entry_table.specs.Slots.{stride, slotsIn};
 ghost use Rattle.entry_table.specs.Table.{table, known};
-ghost use Rattle.entry_table.specs.Storing.{newKeys, keysOf, infosOf, adding, usedAfter, wordsAfter, outcome};
-ghost use Rattle.entry_table.specs.Carved.{row, carvedKey, carvedInfo, carvedIn, seen};
+ghost use Rattle.entry_table.specs.Storing.{newKeys, keysOf, namesOf, adding, usedAfter, wordsAfter, outcome};
+ghost use Rattle.entry_table.specs.Carved.{row, carvedKey, carvedName, carvedInfo, carvedIn, seen};
 use crate::EntryInfo;
 use crate::EntryKey;
 use crate::NamePlace;
@@ -18,6 +18,7 @@ use crate::slots::Found;
 use crate::slots::STRIDE;
 use crate::slots::add;
 use crate::slots::find;
+use crate::slots::key_in;
 use crate::slots::same_key;
 
 // The words of a carved entry.
@@ -28,41 +29,40 @@ fn carved_key(entries: &[u64], i: usize) -> EntryKey
     requires { ⌜ i * row + row ≤ length (now entries) ⌝ }
     ensures { λ r. ⌜ r ≡ carvedKey (now (entries .entry)) i ⌝ }
 {
+    key_in(entries, i * ROW + 1)
+}
+
+// Where its name lies.
+fn carved_name(entries: &[u64], i: usize) -> NamePlace
+    requires { ⌜ i * row + row ≤ length (now entries) ⌝ }
+    ensures { λ r. ⌜ r ≡ carvedName (now (entries .entry)) i ⌝ }
+{
     let at = i * ROW;
-    EntryKey {
-        entry: entries[at + 1],
-        sequence: entries[at + 2],
+    NamePlace {
+        source: IMAGE,
+        offset: entries[at + 3],
+        length: entries[at + 4],
     }
 }
 
-// What carved entry i says of its key.
+// What it says of its key.
 fn carved_info(entries: &[u64], i: usize) -> EntryInfo
     requires { ⌜ i * row + row ≤ length (now entries) ⌝ }
     ensures { λ r. ⌜ r ≡ carvedInfo (now (entries .entry)) i ⌝ }
 {
-    let at = i * ROW;
-    let parent = EntryKey {
-        entry: entries[at + 5],
-        sequence: entries[at + 6],
-    };
-    let name = NamePlace {
-        source: IMAGE,
-        offset: entries[at + 3],
-        length: entries[at + 4],
-    };
+    let parent = key_in(entries, i * ROW + 5);
+    let name = carved_name(entries, i);
     EntryInfo { parent, name }
 }
 
 // Whether the name of every carved entry ends inside its slice.
 pub(crate) fn carved_inside(entries: &[u64], journal_length: usize, image_length: usize) -> bool
-    ensures { λ r. ⌜ r ≡ allInside (lengths «journal_length» «image_length») (infosOf (carvedIn (now (entries .entry)))) ⌝ }
+    ensures { λ r. ⌜ r ≡ allInside (lengths «journal_length» «image_length») (namesOf (carvedIn (now (entries .entry)))) ⌝ }
 {
     let count = entries.len() / ROW;
     let mut i: usize = 0;
     while i < count {
-        let info = carved_info(entries, i);
-        let name = info.name;
-        if !is_inside(name, journal_length, image_length) {
+        if !is_inside(carved_name(entries, i), journal_length, image_length) {
             return false;
         }
         i += 1;

@@ -5,13 +5,12 @@
 // and its length in bytes. Words after the last whole slot are left alone. Of equal keys the lowest slot counts.
 //
 // Every function here is proved. No call has a `requires`: any table and any entry get an answer. Of journal and image only
-// the lengths are used, so names decide nothing.
+// the lengths are used, so names decide nothing. The modules' functions are helpers of our own crates and ask for room.
 pub mod carved;
 pub mod names;
 pub mod slots;
 
 ghost use mathlib.Core.Path.{_≡_};
-ghost use mathlib.Core.List.{[], _∷_};
 ghost use mathlib.Core.Bool.{true, false};
 ghost use Rattle.entry_table.specs.Names.{lengths, lengthsOf};
 ghost use Rattle.entry_table.specs.Table.{table};
@@ -27,7 +26,7 @@ use walk::BAD_STATE;
 use walk::NAME_OUTSIDE;
 use walk::TABLE_FULL;
 
-// A file or folder at a time: its MFT entry and sequence. Any two words are a key.
+// A file or folder by its MFT entry and sequence. Any two words are a key.
 pub struct EntryKey {
     pub entry: u64,
     pub sequence: u64,
@@ -52,7 +51,7 @@ pub enum Stored {
     Refused(u32),
 }
 
-// The entry under its key, in place of a known one.
+// Stores an entry under its key. A known one is replaced, in the slot where it stands.
 // Refused, with nothing written: 9 used is above the slots, 7 the name's place passes its slice, 6 the key is new and no slot
 // is left.
 pub fn insert(
@@ -69,7 +68,7 @@ pub fn insert(
     store(journal.len(), image.len(), slots, used, key, info, true)
 }
 
-// The entry under its key, where the key is new; a known entry is left alone.
+// Stores an entry under its key where the key is new. A known one is left alone.
 // Refused as insert is.
 pub fn insert_if_absent(
     journal: &[u8],
@@ -85,9 +84,9 @@ pub fn insert_if_absent(
     store(journal.len(), image.len(), slots, used, key, info, false)
 }
 
-// The carved entries of an image, each where its key is new. They come as the image carver lists them, nine words an entry:
-// offset, entry, sequence, name offset, name length, parent entry, parent sequence, directory, in use. Words after the last
-// whole entry are ignored.
+// Stores the carved entries of an image, in turn, each where its key is new. They come as the image carver lists them, nine
+// words an entry: offset, entry, sequence, name offset, name length, parent entry, parent sequence, directory, in use. Words
+// after the last whole entry are ignored.
 // Refused, with nothing written: 9 used is above the slots, 7 a listed name's place passes the image, also of a known entry,
 // 6 the different new keys are more than the slots that are left.
 pub fn seed(journal: &[u8], image: &[u8], slots: &mut [u64], used: usize, entries: &[u64]) -> Stored

@@ -3,9 +3,9 @@ ghost use mathlib.Core.Path.{_≡_};
 ghost use Prim.Native.Nat.{_*_, _≤_};
 ghost use lib.ListN.{length};
 ghost use Rattle.entry_table.specs.Names.{lengths, lengthOf, inside, allInside};
-ghost use Rattle.entry_table.specs.Slots.{stride, infosIn};
+ghost use Rattle.entry_table.specs.Slots.{stride, namesIn};
 use crate::NamePlace;
-use crate::slots::info_at;
+use crate::slots::name_at;
 
 // The source of a name that lies in the journal. Any other is the image.
 pub const JOURNAL: u64 = 0;
@@ -37,13 +37,11 @@ pub fn is_inside(name: NamePlace, journal_length: usize, image_length: usize) ->
 // Whether the name of every used slot does.
 pub fn all_inside(slots: &[u64], used: usize, journal_length: usize, image_length: usize) -> bool
     requires { ⌜ used * stride ≤ length (now slots) ⌝ }
-    ensures { λ r. ⌜ r ≡ allInside (lengths «journal_length» «image_length») (infosIn (now (slots .entry)) used) ⌝ }
+    ensures { λ r. ⌜ r ≡ allInside (lengths «journal_length» «image_length») (namesIn (now (slots .entry)) used) ⌝ }
 {
     let mut i: usize = 0;
     while i < used {
-        let info = info_at(slots, i);
-        let name = info.name;
-        if !is_inside(name, journal_length, image_length) {
+        if !is_inside(name_at(slots, i), journal_length, image_length) {
             return false;
         }
         i += 1;

@@ -3,7 +3,7 @@ ghost use mathlib.Core.Path.{_≡_};
 ghost use mathlib.Core.List.{[], _∷_};
 ghost use Prim.Native.Nat.{_+_, _*_, _≤_};
 ghost use lib.ListN.{length};
-ghost use Rattle.entry_table.specs.Slots.{stride, slotsIn, sameKey, keyIn, keyAt, infoAt, putAt};
+ghost use Rattle.entry_table.specs.Slots.{stride, slotsIn, sameKey, keyIn, keyAt, nameAt, infoAt, putAt};
 ghost use Rattle.entry_table.specs.Table.{table, find, addition};
 ghost use Rattle.entry_table.specs.Storing.{adding, usedAfter, wordsAfter, outcome};
 use crate::EntryInfo;
@@ -33,7 +33,7 @@ pub fn same_key(a: EntryKey, b: EntryKey) -> bool
 }
 
 // The key that stands from word p on.
-fn key_in(words: &[u64], p: usize) -> EntryKey
+pub(crate) fn key_in(words: &[u64], p: usize) -> EntryKey
     requires { ⌜ p + 2 ≤ length (now words) ⌝ }
     ensures { λ r. ⌜ r ≡ keyIn (now (words .entry)) p ⌝ }
 {
@@ -51,18 +51,26 @@ pub fn key_at(slots: &[u64], i: usize) -> EntryKey
     key_in(slots, i * STRIDE)
 }
 
+// Where the name of slot i lies.
+pub fn name_at(slots: &[u64], i: usize) -> NamePlace
+    requires { ⌜ i * stride + stride ≤ length (now slots) ⌝ }
+    ensures { λ r. ⌜ r ≡ nameAt (now (slots .entry)) i ⌝ }
+{
+    let p = i * STRIDE + 4;
+    NamePlace {
+        source: slots[p],
+        offset: slots[p + 1],
+        length: slots[p + 2],
+    }
+}
+
 // What slot i says of its key.
 pub fn info_at(slots: &[u64], i: usize) -> EntryInfo
     requires { ⌜ i * stride + stride ≤ length (now slots) ⌝ }
     ensures { λ r. ⌜ r ≡ infoAt (now (slots .entry)) i ⌝ }
 {
-    let at = i * STRIDE;
-    let parent = key_in(slots, at + 2);
-    let name = NamePlace {
-        source: slots[at + 4],
-        offset: slots[at + 5],
-        length: slots[at + 6],
-    };
+    let parent = key_in(slots, i * STRIDE + 2);
+    let name = name_at(slots, i);
     EntryInfo { parent, name }
 }
 
@@ -100,8 +108,8 @@ fn put(slots: &mut [u64], i: usize, key: EntryKey, info: EntryInfo)
     put_words(slots, i * STRIDE, &words);
 }
 
-// An entry under its key. A known one is replaced, or left alone where replace is false; a new one takes the first slot that
-// is not used. Refused, with nothing written: 6 the key is new and no slot is left.
+// Stores an entry under its key. A known one is replaced, or left alone where replace is false; a new one takes the first slot
+// that is not used. Refused, with nothing written: 6 the key is new and no slot is left.
 pub fn add(slots: &mut [u64], used: usize, key: EntryKey, info: EntryInfo, replace: bool) -> Stored
     requires { ⌜ used ≤ slotsIn (now slots) ⌝ }
     ensures { λ r. ⌜ outcome r ≡ usedAfter (adding (table (now (slots .entry)) used) (addition key info replace ∷ [])) ⌝ }

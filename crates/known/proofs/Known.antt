@@ -15,6 +15,15 @@ use Rattle.usn_journal.specs.Outcome.{scan}
 use Rattle.usn_carver.specs.Carve.{judged, visitAs, carving}
 use Rattle.usn_carver.specs.Carve.{visit as carverVisit}
 use Rattle.usn_reader.specs.Journal.{stepAt, steps, toCome}
+use Rattle.mft_carver.specs.Filename.{replaces, keep}
+use Rattle.mft_carver.specs.Attributes.{given, attributeAt, filenameIn}
+use Rattle.mft_carver.specs.Attributes.{visit as attributeVisit}
+use Rattle.mft_carver.specs.Entry.{hasSignature}
+use Rattle.mft_carver.specs.Entry.{judged as entryJudged}
+use Rattle.mft_carver.specs.Carve.{visit as imageVisit}
+use Rattle.utf16.specs.Utf16.{alone, codePoints}
+use Rattle.utf16.specs.Utf8.{utf8}
+use Rattle.utf16.specs.Text.{decoded}
 use Rattle.known.specs.Case.{Case, same, right}
 use Rattle.known.specs.Cases.{cases}
 
@@ -34,7 +43,7 @@ as-known (x ∷ cs) e c (List·Memᴰ·head q) = rw q (same-eq (x .says) (x .kno
 as-known (x ∷ cs) e c (List·Memᴰ·tail m) = as-known cs (and-right (same (x .says) (x .known)) (right cs) e) c m
 
 computed : right cases ≡ true
-unfolding le leAt timestampOf referenceOf filenameOf recordOf parsed listed recordWords walk from kindByVersion kindOf visit scanned scan judged visitAs carverVisit carving stepAt steps toCome
+unfolding le leAt timestampOf referenceOf filenameOf recordOf parsed listed recordWords walk from kindByVersion kindOf visit scanned scan judged visitAs carverVisit carving stepAt steps toCome replaces keep given attributeAt filenameIn attributeVisit hasSignature entryJudged imageVisit alone codePoints utf8 decoded
 computed = refl
 
 pub known : (c : Case) → List·Memᴰ c cases → c .says ≡ c .known

@@ -2,7 +2,8 @@
 use mathlib.Core.List.{List, _++_}
 use Rattle.known.specs.Case.{Case}
 use Rattle.known.specs.Records.{times, slices, fieldsE}
+use Rattle.known.specs.Images.{firstAttributes, namespaces, unseen, surrogates}
 use Rattle.known.specs.Journals.{empties, moves, claims, rejections}
 
 abbrev pub cases : List Case
-cases = empties ++ times ++ slices ++ fieldsE ++ moves ++ claims ++ rejections
+cases = empties ++ times ++ slices ++ fieldsE ++ moves ++ claims ++ rejections ++ firstAttributes ++ namespaces ++ unseen ++ surrogates

@@ -2,4 +2,5 @@ pub mod Case
 pub mod Bytes
 pub mod Records
 pub mod Journals
+pub mod Images
 pub mod Cases

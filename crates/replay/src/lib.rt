@@ -1,11 +1,49 @@
-// What the replay programs write: a record's fields as a line, and words with numbers.
+// What the replay programs share: the cases of a recording, and lines with numbers, a record's fields or a refusal.
 //
 // Every function here is proved safe. What is written is compared with recorded answers of the Rust original.
+ghost use lib.ListN.{length};
+ghost use Rattle.replay.specs.Cases.{Inside};
 use libc::STDOUT_FILENO;
 use usn_record::UsnRecord;
+use usn_record::bytes::byte_at;
 use usn_record::bytes::le_u16;
+use usn_record::bytes::le_u32;
 use usn_record::bytes::signed_bits;
 use walk::Place;
+
+// What stands at an offset of a recording: a case of a kind, with its bytes from start to end, or no more.
+pub enum NextCase {
+    Over,
+    Case { kind: u8, start: usize, end: usize },
+}
+
+// The case at an offset: a byte, its kind, four bytes, its length, and its bytes. No more where fewer bytes are left.
+pub fn case_at(cases: &[u8], at: usize) -> NextCase
+    ensures { λ r. ⌜ Inside (length (now (cases .entry))) at r ⌝ }
+{
+    if cases.len() < 5 {
+        return NextCase::Over;
+    }
+    if cases.len() - 5 < at {
+        return NextCase::Over;
+    }
+    let start = at + 5;
+    let length = le_u32(cases, at + 1) as usize;
+    if cases.len() - start < length {
+        return NextCase::Over;
+    }
+    NextCase::Case {
+        kind: byte_at(cases, at),
+        start,
+        end: start + length,
+    }
+}
+
+// A line that no recording has.
+pub fn write_refused(n: u32) {
+    write_count(b"refused ", n as u64);
+    io::write_all(STDOUT_FILENO, b"\n");
+}
 
 // A word and a number.
 pub fn write_count(word: &[u8], n: u64) {

@@ -6,9 +6,12 @@
 ghost use Prim.Native.Nat.{_≤_};
 use libc::STDIN_FILENO;
 use libc::STDOUT_FILENO;
+use replay::NextCase;
+use replay::case_at;
 use replay::write_count;
 use replay::write_field;
 use replay::write_record;
+use replay::write_refused;
 use usn_carver::Carving;
 use usn_carver::CarvingStats;
 use usn_carver::carve_usn_records;
@@ -18,7 +21,6 @@ use usn_reader::Answer;
 use usn_reader::Reading;
 use usn_reader::UsnJournalReader;
 use usn_record::Parsed;
-use usn_record::bytes::le_u32;
 use usn_record::listed_record;
 
 fn main() {
@@ -27,21 +29,17 @@ fn main() {
     replay_all(&buffer[..n]);
 }
 
-// Each case in turn, until fewer bytes are left than it has.
+// Each case in turn.
 fn replay_all(cases: &[u8]) {
     let mut at: usize = 0;
-    while at < cases.len() {
-        if cases.len() - at < 5 {
-            return;
+    loop {
+        match case_at(cases, at) {
+            NextCase::Over => return,
+            NextCase::Case { kind, start, end } => {
+                answer(kind, &cases[start..end]);
+                at = end;
+            }
         }
-        let start = at + 5;
-        let length = le_u32(cases, at + 1) as usize;
-        if cases.len() - start < length {
-            return;
-        }
-        let end = start + length;
-        answer(cases[at], &cases[start..end]);
-        at = end;
     }
 }
 
@@ -73,11 +71,6 @@ fn carve(journal: &[u8]) {
         }
         Carving::Refused(n) => write_refused(n),
     }
-}
-
-fn write_refused(n: u32) {
-    write_count(b"refused ", n as u64);
-    io::write_all(STDOUT_FILENO, b"\n");
 }
 
 fn write_records_line(n: usize) {

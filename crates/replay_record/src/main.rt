@@ -4,8 +4,9 @@
 // beside src/ holds what the original answered; tests/differential wrote both (--record).
 use libc::STDIN_FILENO;
 use libc::STDOUT_FILENO;
+use replay::NextCase;
+use replay::case_at;
 use usn_record::Parsed;
-use usn_record::bytes::le_u32;
 use usn_record::parse_usn_record_v2;
 use usn_record::parse_usn_record_v3;
 
@@ -15,21 +16,17 @@ fn main() {
     replay(&buffer[..n]);
 }
 
-// Each case in turn, until fewer bytes are left than it has.
+// Each case in turn.
 fn replay(cases: &[u8]) {
     let mut at: usize = 0;
-    while at < cases.len() {
-        if cases.len() - at < 5 {
-            return;
+    loop {
+        match case_at(cases, at) {
+            NextCase::Over => return,
+            NextCase::Case { kind, start, end } => {
+                answer(kind, &cases[start..end]);
+                at = end;
+            }
         }
-        let start = at + 5;
-        let length = le_u32(cases, at + 1) as usize;
-        if cases.len() - start < length {
-            return;
-        }
-        let end = start + length;
-        answer(cases[at], &cases[start..end]);
-        at = end;
     }
 }
 

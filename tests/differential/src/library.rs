@@ -1,4 +1,5 @@
-//! The calls of our library, `libusn_journal_reader.a`. Nothing checks these declarations against its source.
+//! The calls of our library, `libusn_journal_reader.a` and `libvolume_history.a`. Nothing checks these declarations
+//! against its source.
 //!
 //! Each call answers 0 and writes the words of its answer, or answers a refusal number and writes nothing. Slices pass
 //! as a pointer and a length. The calls ask nothing of their arguments, so the wrappers are safe for any slices.
@@ -44,6 +45,29 @@ pub const CARVING_FIELDS: [&str; 5] = [
     "rejected_structure",
 ];
 
+/// The words of an entry carved from an image, in this order. The name's offset counts from the image's start, its
+/// length is in bytes, and a flag is 0 or 1.
+pub const ENTRY_FIELDS: [&str; 9] = [
+    "offset",
+    "entry_number",
+    "sequence_number",
+    "filename offset",
+    "filename length",
+    "parent_entry",
+    "parent_sequence",
+    "is_directory",
+    "is_in_use",
+];
+
+/// How many words a carved entry has.
+pub const ENTRY_WORDS: usize = ENTRY_FIELDS.len();
+
+/// The word of a carved entry's name's offset; its length is the next.
+pub const ENTRY_NAME: usize = 3;
+
+/// The words of an image carving's answer.
+pub const MFT_CARVING_FIELDS: [&str; 4] = ["bytes_scanned", "candidates_examined", "entries_carved", "rejected"];
+
 /// The words of a window, in this order.
 pub const READER_FIELDS: [&str; 6] = ["start", "position", "end", "held", "total", "ended"];
 
@@ -75,6 +99,7 @@ pub const TOO_SHORT: u32 = 2;
 pub const LENGTH_OUTSIDE: u32 = 3;
 pub const LENGTH_PAST_SLICE: u32 = 4;
 pub const NO_ROOM: u32 = 5;
+pub const TEXT_TOO_SMALL: u32 = 8;
 pub const BAD_NUMBERS: u32 = 9;
 pub const TOO_MANY_BYTES: u32 = 10;
 pub const BAD_BUFFER: u32 = 11;
@@ -130,6 +155,24 @@ mod declared {
             buffer_len: usize,
             bytes: *const u8,
             bytes_len: usize,
+            out: *mut u64,
+            out_len: usize,
+        ) -> u32;
+
+        pub fn mft_carve_entries(
+            image: *const u8,
+            image_len: usize,
+            list: *mut u64,
+            list_len: usize,
+            out: *mut u64,
+            out_len: usize,
+        ) -> u32;
+
+        pub fn utf16_decode(
+            bytes: *const u8,
+            bytes_len: usize,
+            text: *mut u8,
+            text_len: usize,
             out: *mut u64,
             out_len: usize,
         ) -> u32;
@@ -198,4 +241,18 @@ pub fn usn_reader_give(reader: &mut [u64], buffer: &mut [u8], bytes: &[u8], out:
             out.len(),
         )
     }
+}
+
+/// The entries carved from an image, `ENTRY_WORDS` words of `list` each; `out` takes the `MFT_CARVING_FIELDS`.
+pub fn mft_carve_entries(image: &[u8], list: &mut [u64], out: &mut [u64]) -> u32 {
+    let (lists, words) = (list.as_mut_ptr(), out.as_mut_ptr());
+    // SAFETY: as above.
+    unsafe { declared::mft_carve_entries(image.as_ptr(), image.len(), lists, list.len(), words, out.len()) }
+}
+
+/// The UTF-16 of `bytes`, little endian, as UTF-8 at the front of `text`; `out` takes its length in bytes.
+pub fn utf16_decode(bytes: &[u8], text: &mut [u8], out: &mut [u64]) -> u32 {
+    let (texts, words) = (text.as_mut_ptr(), out.as_mut_ptr());
+    // SAFETY: as above.
+    unsafe { declared::utf16_decode(bytes.as_ptr(), bytes.len(), texts, text.len(), words, out.len()) }
 }

@@ -6,8 +6,11 @@
 
 mod difference;
 mod error;
+mod image;
 mod journals;
+mod lent;
 mod library;
+mod names;
 mod random;
 mod records;
 mod usn;
@@ -20,7 +23,8 @@ use std::io;
 use std::path::Path;
 use std::process::ExitCode;
 
-const USAGE: &str = "usage: differential [--seed N] [--cases N]\n       differential --record CRATES";
+const USAGE: &str =
+    "usage: differential [--seed N] [--cases N]\n       differential --record CRATES\n       differential --image FILE";
 
 /// The seed of a run and how many random cases each subject has.
 pub struct Run {
@@ -31,6 +35,7 @@ pub struct Run {
 enum Command {
     Compare(Run),
     Record(String),
+    Image(String),
 }
 
 fn main() -> ExitCode {
@@ -43,6 +48,13 @@ fn main() -> ExitCode {
             Ok(()) => ExitCode::SUCCESS,
             Err(error) => {
                 eprintln!("{folder}: {error}");
+                ExitCode::FAILURE
+            }
+        },
+        Some(Command::Image(file)) => match image::file::run(&file) {
+            Ok(()) => ExitCode::SUCCESS,
+            Err(why) => {
+                println!("{why}");
                 ExitCode::FAILURE
             }
         },
@@ -59,7 +71,8 @@ fn main() -> ExitCode {
 /// The recorded samples, each to its own folder among the crates.
 fn record(crates: &Path) -> io::Result<()> {
     records::sample::write(&crates.join("replay_record"))?;
-    journals::sample::write(&crates.join("replay_readers"))
+    journals::sample::write(&crates.join("replay_readers"))?;
+    image::sample::write(&crates.join("replay_image"))
 }
 
 /// Every subject in turn, up to the first difference.
@@ -68,7 +81,9 @@ fn compare(run: &Run) -> Outcome {
     records::listed::run(run)?;
     journals::scan::run(run)?;
     journals::carver::run(run)?;
-    window::run(run)
+    window::run(run)?;
+    names::run(run)?;
+    image::run(run)
 }
 
 /// The command line; nothing where it is not understood.
@@ -77,20 +92,21 @@ fn command(mut words: impl Iterator<Item = String>) -> Option<Command> {
         seed: 1,
         cases: 1_000_000,
     };
-    let mut folder = None;
+    let mut other = None;
     let mut numbers = false;
     while let Some(word) = words.next() {
         let value = words.next()?;
         match word.as_str() {
             "--seed" => run.seed = value.parse().ok()?,
             "--cases" => run.cases = value.parse().ok()?,
-            "--record" => folder = Some(value),
+            "--record" if other.is_none() => other = Some(Command::Record(value)),
+            "--image" if other.is_none() => other = Some(Command::Image(value)),
             _ => return None,
         }
-        numbers |= word != "--record";
+        numbers |= matches!(word.as_str(), "--seed" | "--cases");
     }
-    match folder {
+    match other {
         None => Some(Command::Compare(run)),
-        Some(folder) => (!numbers).then_some(Command::Record(folder)),
+        other => other.filter(|_| !numbers),
     }
 }

@@ -5,6 +5,7 @@ use super::known::Known;
 use super::walks::Place;
 use super::{edges, known};
 use crate::difference::{Case, Difference, Finding, Outcome};
+use crate::lent::{beginning, untouched, Lent, BEHIND};
 use crate::library::{ABOVE_DOMAIN, ACCEPTED, DOMAIN, NO_ROOM};
 use crate::random::Random;
 use crate::records::answers::{compare_given, named};
@@ -44,21 +45,6 @@ pub struct Walk {
 pub struct Named {
     pub offsets: Vec<usize>,
     pub words: Vec<u64>,
-}
-
-/// How many words a call is lent for the list and for the answer.
-#[derive(Debug, Clone, Copy)]
-struct Lent {
-    list: usize,
-    out: usize,
-}
-
-/// The words behind those lent, which no call may write.
-const BEHIND: usize = 4;
-
-/// What a word of a list or of an answer holds before a call, each another value.
-fn untouched(at: usize) -> u64 {
-    0xa55a_c33c_9669_0000 + at as u64
 }
 
 /// What a call answered, with all the words, those lent and those behind them.
@@ -105,11 +91,6 @@ impl Answer {
             refusal => format!("refusal {refusal}"),
         }
     }
-}
-
-/// As much of a list as is printed.
-fn beginning<T>(list: &[T]) -> &[T] {
-    &list[..list.len().min(40)]
 }
 
 /// The scope's answer to an extract with so many records, its tests in their order.

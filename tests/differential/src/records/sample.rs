@@ -36,9 +36,9 @@ const EXHAUSTIVE: [(&str, usize); 11] = [
     ("single bit", 24),
 ];
 
-/// The largest slice that is recorded, and the largest `stdin`.
+/// The largest slice that is recorded, and the largest `stdin` of any sample.
 const LONGEST_SLICE: usize = 300;
-const LONGEST_STDIN: usize = 60_000;
+const LONGEST_STDIN: usize = 200_000;
 
 #[derive(Default)]
 struct Sample {

@@ -3,13 +3,13 @@ use Prim.Native.Nat.{_-_}
 use native.Mathlib.Omega.{arith}
 use borrow.Author.Tests.{not-true, not-false}
 use Rattle.entry_table.specs.Names.{lengths}
-use Rattle.entry_table.specs.Slots.{infoAt}
+use Rattle.entry_table.specs.Slots.{nameAt}
 use Rattle.entry_table.proofs.NameLaws.{Passing, passing-start, passing-row, passing-outside, passing-end}
 use Rattle.entry_table.proofs.names.all_inside.Statement.{statement}
 use Rattle.entry_table.proofs.names.all_inside.Tie as tie
 
 abbrev Inv-loop : tie.InvT-loop
-Inv-loop slots used journal-length image-length i₀ i = Passing (lengths journal-length image-length) (infoAt slots) i used
+Inv-loop slots used journal-length image-length i₀ i = Passing (lengths journal-length image-length) (nameAt slots) i used
 
 abbrev μ-loop : tie.MeasureT-loop
 μ-loop slots used journal-length image-length i₀ i = used - i
@@ -17,14 +17,14 @@ abbrev μ-loop : tie.MeasureT-loop
 loop-holds : tie.Need-loop-holds Inv-loop μ-loop
 loop-holds c = passing-start _ _ _
 
-info-at-requires : tie.Need-info-at-requires Inv-loop μ-loop
-info-at-requires c κs = omega arith
+name-at-requires : tie.Need-name-at-requires Inv-loop μ-loop
+name-at-requires c κs = omega arith
 
 is-inside-requires : tie.Need-is-inside-requires Inv-loop μ-loop
 is-inside-requires c κs = tt
 
 returns : tie.Need-returns Inv-loop μ-loop
-returns c = passing-outside (c .before .before .before .before .before .loop .inv) (c .before .before .before .before .loop-test .taken) (c .before .before .before .info-at .ensures) (c .before .is-inside .ensures) (not-true _ (c .if1 .taken))
+returns c = passing-outside (c .before .before .before .before .loop .inv) (c .before .before .before .loop-test .taken) (c .before .before .name-at .ensures) (c .before .is-inside .ensures) (not-true _ (c .if1 .taken))
 
 add-i : tie.Need-add-i Inv-loop μ-loop
 add-i c = omega arith
@@ -33,7 +33,7 @@ loop-less : tie.Need-loop-less Inv-loop μ-loop
 loop-less c = omega arith
 
 loop-again : tie.Need-loop-again Inv-loop μ-loop
-loop-again c = passing-row (c .before .before .before .before .before .loop .inv) (c .before .before .before .before .loop-test .taken) (c .before .before .before .info-at .ensures) (c .before .is-inside .ensures) (not-false _ (c .if1 .left))
+loop-again c = passing-row (c .before .before .before .before .loop .inv) (c .before .before .before .loop-test .taken) (c .before .before .name-at .ensures) (c .before .is-inside .ensures) (not-false _ (c .if1 .left))
 
 returns-2 : tie.Need-returns-2 Inv-loop μ-loop
 returns-2 c = passing-end (c .before .loop .inv) (c .loop-test .left)
@@ -45,7 +45,7 @@ all-inside-spec =
     Inv-loop
     μ-loop
     loop-holds
-    info-at-requires
+    name-at-requires
     is-inside-requires
     returns
     add-i

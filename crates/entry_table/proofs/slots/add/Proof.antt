@@ -1,6 +1,8 @@
 -- By where the key stands, and whether a slot is left.
+use Prim.Native.Nat.{_≤_, _<_}
 use mathlib.Core.Path.{refl, sym, _∙_}
 use native.Mathlib.Omega.{arith}
+use Rattle.entry_table.specs.Slots.{slotsIn}
 use Rattle.entry_table.proofs.TableLaws.{find-used}
 use Rattle.entry_table.proofs.StoringLaws.{comes-out, add-over, add-kept, add-new, add-full}
 use borrow.Author.Needs.{needs}
@@ -29,7 +31,9 @@ same-length : tie.Need-same-length
 same-length c = search needs
 
 returns : tie.Need-returns
-returns c = comes-out _ (add-new _ _ (c .before .before .before .before .before .before .before .find .ensures) (c .before .before .before .before .before .enum-told .given .1) (c .before .before .before .before .if2 .taken)) refl (c .before .before .put2 .ensures)
+returns c =
+    let left : c .before .before .before .before .before .before .before .before .before .before .args .used < slotsIn (c .before .before .before .before .before .before .before .before .before .before .args .slots .now) = omega (arith, c .before .before .before .before .if2 .taken) in
+    comes-out _ (add-new _ _ (c .before .before .before .before .before .before .before .find .ensures) (c .before .before .before .before .before .enum-told .given .1) left) refl (c .before .before .put2 .ensures)
 
 same-length-2 : tie.Need-same-length-2
 same-length-2 c = search needs
@@ -47,7 +51,9 @@ same-length-4 : tie.Need-same-length-4
 same-length-4 c = search needs
 
 returns-4 : tie.Need-returns-4
-returns-4 c = comes-out _ (add-full _ _ (c .before .before .before .find .ensures) (c .before .enum-told .given .1) (c .if2 .left)) refl refl
+returns-4 c =
+    let full : slotsIn (c .before .before .before .before .before .before .args .slots .now) ≤ c .before .before .before .before .before .before .args .used = omega (arith, c .if2 .left) in
+    comes-out _ (add-full _ _ (c .before .before .before .find .ensures) (c .before .enum-told .given .1) full) refl refl
 
 pub add-spec : {M : Type 1} → statement M
 add-spec =

@@ -1,0 +1,132 @@
+// Replays recorded answers of the Rust original's image carver, and of its decoding of names.
+//
+// Standard input: for each case a byte, what it is (1 an image, 2 a name), four bytes, its length, and its bytes. The file `stdout`
+// beside src/ holds what the original answered; tests/differential wrote both (--record).
+use libc::STDIN_FILENO;
+use libc::STDOUT_FILENO;
+use mft_carver::MftCarving;
+use mft_carver::MftCarvingStats;
+use mft_carver::carve_mft_entries;
+use replay::NextCase;
+use replay::case_at;
+use replay::write_count;
+use replay::write_field;
+use replay::write_refused;
+use usn_record::bytes::byte_at;
+use utf16::Decoded;
+use utf16::decode_utf16;
+
+// The words of an entry in the carver's list.
+const ENTRY_WORDS: usize = 9;
+
+fn main() {
+    let mut buffer = [0u8; 131072];
+    let n = io::read_full(STDIN_FILENO, &mut buffer);
+    replay_all(&buffer[..n]);
+}
+
+// Each case in turn.
+fn replay_all(cases: &[u8]) {
+    let mut at: usize = 0;
+    loop {
+        match case_at(cases, at) {
+            NextCase::Over => return,
+            NextCase::Case { kind, start, end } => {
+                answer(kind, &cases[start..end]);
+                at = end;
+            }
+        }
+    }
+}
+
+fn answer(kind: u8, bytes: &[u8]) {
+    if kind == 1 {
+        carve(bytes);
+    } else {
+        write_text(bytes);
+    }
+}
+
+fn carve(image: &[u8]) {
+    let mut list = [0u64; 576];
+    match carve_mft_entries(image, &mut list) {
+        MftCarving::Carved(stats) => {
+            write_stats(stats);
+            write_entries(image, &list, stats.entries_carved);
+        }
+        MftCarving::Refused(n) => write_refused(n),
+    }
+}
+
+fn write_stats(stats: MftCarvingStats) {
+    write_count(b"entries ", stats.entries_carved as u64);
+    write_count(b" candidates ", stats.candidates_examined);
+    write_count(b" rejected ", stats.rejected);
+    write_count(b" bytes ", stats.bytes_scanned as u64);
+    io::write_all(STDOUT_FILENO, b"\n");
+}
+
+// The first n entries of a list.
+fn write_entries(image: &[u8], list: &[u64], n: usize) {
+    for i in 0..n {
+        if list.len() / ENTRY_WORDS <= i {
+            return;
+        }
+        write_entry(image, list, ENTRY_WORDS * i);
+    }
+}
+
+// A line: the entry whose words begin at an index of the list.
+fn write_entry(image: &[u8], list: &[u64], at: usize) {
+    if list.len() < ENTRY_WORDS {
+        return;
+    }
+    if list.len() - ENTRY_WORDS < at {
+        return;
+    }
+    write_field(list[at]);
+    write_field(list[at + 1]);
+    write_field(list[at + 2]);
+    write_field(list[at + 5]);
+    write_field(list[at + 6]);
+    write_field(list[at + 7]);
+    write_field(list[at + 8]);
+    write_place(image, list[at + 3] as usize, list[at + 4] as usize);
+}
+
+// The text of the name at a place.
+fn write_place(image: &[u8], offset: usize, length: usize) {
+    if image.len() < length {
+        return;
+    }
+    if image.len() - length < offset {
+        return;
+    }
+    let end = offset + length;
+    write_text(&image[offset..end]);
+}
+
+// A name's text.
+fn write_text(name: &[u8]) {
+    let mut text = [0u8; 1024];
+    match decode_utf16(name, &mut text) {
+        Decoded::Text(n) => write_hex(&text, n),
+        Decoded::Refused(n) => write_refused(n),
+    }
+}
+
+// A line: the first n bytes of a text in hexadecimal, or a dash.
+fn write_hex(text: &[u8], n: usize) {
+    if n == 0 {
+        io::write_all(STDOUT_FILENO, b"-");
+    }
+    write_digits(text, n);
+    io::write_all(STDOUT_FILENO, b"\n");
+}
+
+// Two digits a byte.
+fn write_digits(text: &[u8], n: usize) {
+    for i in 0..n {
+        io::print_hex(STDOUT_FILENO, byte_at(text, i) as u64, 2);
+    }
+}
