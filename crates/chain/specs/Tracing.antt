@@ -1,0 +1,44 @@
+-- The outcomes that need no text: they depend on the table and the lengths of journal and image, and never on their bytes.
+use Prim.Native.Nat.{ℕ}
+use mathlib.Core.List.{List}
+use mathlib.Core.Bool.{cond, not}
+use lib.ListN.{length}
+use lib.Dec.{ltb, leb}
+use Rattle.walk.specs.Outcome.{Outcome, refused, answered}
+use Rattle.walk.specs.Lists.{overwrite}
+use Rattle.walk.specs.Refusals.{aboveDomain, nameOutside, badState, domain}
+use Rattle.entry_table.specs.Names.{Lengths, allInside}
+use Rattle.entry_table.specs.Slots.{slotsIn, infosIn}
+use Rattle.entry_table.specs.Table.{Table}
+use Rattle.entry_table.specs.declared.EntryKey.{EntryKey}
+use Rattle.entry_table.specs.declared.NamePlace.{NamePlace}
+use Rattle.chain.specs.declared.ResolvedPath.{ResolvedPath}
+use Rattle.chain.specs.declared.ChainAnswer.{ChainAnswer}
+use Rattle.chain.specs.declared.ChainAnswer.the-variants.{Resolved, Refused}
+use Rattle.chain.specs.Chain.{Chain, chainOf, chainWords}
+
+-- 1: journal or image is above the domain; else what comes after
+unfoldable pub inDomain : {A : Type 0} → Lengths → Outcome A → Outcome A
+inDomain ls o = cond (ltb domain (ls .journal)) (refused aboveDomain) (cond (ltb domain (ls .image)) (refused aboveDomain) o)
+
+-- the chain of a key: 1; 9: the used slots are above the slots; 7: the name's place of some used slot is outside its slice
+unfoldable pub tracing : Lengths → Table → ℕ → EntryKey → Outcome Chain
+tracing ls t depth k =
+    inDomain ls
+    (cond (ltb (slotsIn (t .words)) (t .used)) (refused badState)
+    (cond (not (allInside ls (infosIn (t .words) (t .used)))) (refused nameOutside)
+    (answered (chainOf t depth k))))
+
+-- the words with the chain's places in front, where there is room for all of them
+unfoldable pub listed : List ℕ → List NamePlace → List ℕ
+listed l ps = cond (leb (length (chainWords ps)) (length l)) (overwrite l (chainWords ps)) l
+
+-- what the lent chain list holds after a call; a refusal writes nothing
+abbrev pub chainAfter : Outcome Chain → List ℕ → List ℕ
+chainAfter (refused n) l = l
+chainAfter (answered c) l = listed l (c .places)
+
+-- what the call's answer says
+abbrev pub outcome : ChainAnswer → Outcome ResolvedPath
+outcome (Resolved p) = answered p
+outcome (Refused n) = refused n

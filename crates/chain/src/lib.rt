@@ -1,0 +1,100 @@
+// The chain of a key in the lookup table: how many names its path has, where they lie, and what they hang under.
+//
+// The way goes from a key to its parent, until it comes to the root, to a key that the table does not have, or to a key that
+// is too deep. The lent list takes three words a name, the top one first: source, offset, length. It is written where it has
+// room for all names, and left alone otherwise; 771 words are always enough.
+//
+// Every function here is proved. The call has no `requires`: any table and key get an answer. Of journal and image only the
+// lengths are used, so names decide nothing.
+pub mod places;
+pub mod steps;
+
+ghost use mathlib.Core.Path.{_≡_};
+ghost use Prim.Native.Nat.{_≤_};
+ghost use Rattle.walk.specs.Outcome.{mapOutcome};
+ghost use Rattle.entry_table.specs.Names.{lengths, lengthsOf};
+ghost use Rattle.entry_table.specs.Table.{table};
+ghost use Rattle.chain.specs.Settings.{depth, deepest};
+ghost use Rattle.chain.specs.Chain.{resolved};
+ghost use Rattle.chain.specs.Tracing.{tracing, chainAfter, outcome};
+use crate::places::list_chain;
+use crate::steps::resolve;
+use entry_table::EntryKey;
+use entry_table::names::all_inside;
+use entry_table::slots::STRIDE;
+use walk::ABOVE_DOMAIN;
+use walk::BAD_STATE;
+use walk::DOMAIN;
+use walk::NAME_OUTSIDE;
+
+// How many parents up from the key that is asked for a path is followed.
+pub const DEPTH: usize = 256;
+
+// What the names of a path hang under: the root, a key that the table does not have, or the key at which the levels ran out.
+pub enum ChainEnd {
+    Root,
+    Unknown(EntryKey),
+    Unresolved(EntryKey),
+}
+
+// How many names a path has, and its end.
+pub struct ResolvedPath {
+    pub names: usize,
+    pub end: ChainEnd,
+}
+
+// What a path without text answers.
+pub enum ChainAnswer {
+    Resolved(ResolvedPath),
+    Refused(u32),
+}
+
+// The path of a key without its text.
+// Refused, with nothing written: 1 journal or image is above the domain, 9 used is above the slots, 7 the name's place of a
+// used slot is outside its slice.
+pub fn path_chain(
+    journal: &[u8],
+    image: &[u8],
+    slots: &[u64],
+    used: usize,
+    key: EntryKey,
+    list: &mut [u64],
+) -> ChainAnswer
+    ensures { λ r. ⌜ outcome r ≡ mapOutcome resolved (tracing (lengthsOf (now (journal .entry)) (now (image .entry))) (table (now (slots .entry)) used) depth key) ⌝ }
+    ensures { λ _. ⌜ now (list .exit) ≡ chainAfter (tracing (lengthsOf (now (journal .entry)) (now (image .entry))) (table (now (slots .entry)) used) depth key) (now (list .entry)) ⌝ }
+{
+    match trace(journal.len(), image.len(), slots, used, key, DEPTH) {
+        ChainAnswer::Refused(n) => ChainAnswer::Refused(n),
+        ChainAnswer::Resolved(path) => {
+            list_chain(slots, used, key, DEPTH + 1, list, path.names);
+            ChainAnswer::Resolved(path)
+        }
+    }
+}
+
+// Names and end of a path of any depth, with journal and image by their lengths.
+pub fn trace(
+    journal_length: usize,
+    image_length: usize,
+    slots: &[u64],
+    used: usize,
+    key: EntryKey,
+    depth: usize,
+) -> ChainAnswer
+    requires { ⌜ depth ≤ deepest ⌝ }
+    ensures { λ r. ⌜ outcome r ≡ mapOutcome resolved (tracing (lengths «journal_length» «image_length») (table (now (slots .entry)) used) depth key) ⌝ }
+{
+    if DOMAIN < journal_length {
+        return ChainAnswer::Refused(ABOVE_DOMAIN);
+    }
+    if DOMAIN < image_length {
+        return ChainAnswer::Refused(ABOVE_DOMAIN);
+    }
+    if slots.len() / STRIDE < used {
+        return ChainAnswer::Refused(BAD_STATE);
+    }
+    if !all_inside(slots, used, journal_length, image_length) {
+        return ChainAnswer::Refused(NAME_OUTSIDE);
+    }
+    ChainAnswer::Resolved(resolve(slots, used, key, depth + 1))
+}

@@ -1,0 +1,4 @@
+pub mod MarkerLaws
+pub mod NameLaws
+pub mod PathLaws
+pub mod CallLaws

@@ -1,0 +1,69 @@
+-- The text of the name at a place, by its source, and its length. Assumes nothing.
+use Prim.Native.Nat.{ℕ, _+_, _*_, _/_, _≤_, _<_}
+use mathlib.Core.Path.{_≡_, refl, ap, sym, _∙_}
+use mathlib.Core.List.{List, [], _∷_, _++_}
+use mathlib.Core.Bool.{Bool, true, false, cond}
+use native.Mathlib.Omega.{arith}
+use borrow.Author.Tests.{eq-eqb, ne-eqb, leb-true, eqb-true, eqb-false}
+use lib.ListN.{length, length-append, getD}
+use lib.Dec.{eqb}
+use Rattle.walk.specs.Refusals.{domain}
+use Rattle.utf16.specs.Text.{nameText}
+use Rattle.utf16.proofs.TextLaws.{name-most}
+use Rattle.entry_table.specs.Names.{lengthsOf, inside}
+use Rattle.entry_table.specs.declared.NamePlace.{NamePlace}
+use Rattle.path.specs.Text.{placeText, stepText}
+
+module _ (journal image : List ℕ) (p : NamePlace) where
+  -- the name lies in the journal
+  module _ (s : p .source ≡ 0) where
+    pub journal-text : placeText journal image p ≡ nameText journal (p .offset) (p .length)
+    unfolding placeText
+    journal-text = simp (eq-eqb _ _ s)
+
+    pub journal-inside : inside (lengthsOf journal image) p ≡ true → p .offset + p .length ≤ length journal
+    unfolding inside
+    journal-inside e = leb-true _ _ (simp (eq-eqb _ _ s) at e)
+
+  -- the name lies in the image
+  module _ (s : p .source ≡ 0 → ⊥) where
+    pub image-text : placeText journal image p ≡ nameText image (p .offset) (p .length)
+    unfolding placeText
+    image-text = simp (ne-eqb _ _ s)
+
+    pub image-inside : inside (lengthsOf journal image) p ≡ true → p .offset + p .length ≤ length image
+    unfolding inside
+    image-inside e = leb-true _ _ (simp (ne-eqb _ _ s) at e)
+
+  pub step-parts : stepText journal image p ≡ (0x5C ∷ []) ++ placeText journal image p
+  unfolding stepText
+  step-parts = refl
+
+  pub step-long : length (stepText journal image p) ≡ 1 + length (placeText journal image p)
+  step-long = ap length step-parts ∙ length-append (0x5C ∷ []) (placeText journal image p)
+
+-- bytes of a slice
+abbrev pub Bytes : List ℕ → Type 0
+Bytes s = (i : ℕ) → getD s i 0 < 256
+
+-- what is known of the slices that a text is made of
+pub record Sources (journal image : List ℕ) : Type 0 where
+  pub journalLong : length journal ≤ domain
+  pub imageLong : length image ≤ domain
+  pub journalBytes : Bytes journal
+  pub imageBytes : Bytes image
+
+-- three bytes a unit, and a backslash
+abbrev pub stepMost : ℕ
+stepMost = 1610612737
+
+pub step-most : (journal image : List ℕ) (p : NamePlace) → Sources journal image → inside (lengthsOf journal image) p ≡ true → length (stepText journal image p) ≤ stepMost
+step-most journal image p w e = go (eqb (p .source) 0) refl
+  where
+    go : (b : Bool) → eqb (p .source) 0 ≡ b → length (stepText journal image p) ≤ stepMost
+    go true s =
+        let z = eqb-true (p .source) 0 s in
+        omega (arith, step-long journal image p, ap length (journal-text journal image p z), journal-inside journal image p z e, name-most journal (w .journalBytes) (p .offset) (p .length), w .journalLong)
+    go false s =
+        let z = eqb-false (p .source) 0 s in
+        omega (arith, step-long journal image p, ap length (image-text journal image p z), image-inside journal image p z e, name-most image (w .imageBytes) (p .offset) (p .length), w .imageLong)

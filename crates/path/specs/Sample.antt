@@ -1,0 +1,2 @@
+-- Tables, for worked examples.
+use Prim.Native.Nat.{ℕ}

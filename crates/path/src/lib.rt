@@ -1,0 +1,104 @@
+// Paths from the lookup table as text, and the text of a stored name.
+//
+// A path's text is its end, the root `.`, `UNKNOWN(e:s)` or `UNRESOLVED(e:s)`, and then `\` and a name for each key on the way
+// down to the one that is asked for.
+//
+// Every function here is proved. No call has a `requires`: any table, key and place get an answer. Of journal and image the
+// lengths decide all but the text and whether it fits.
+pub mod text;
+
+ghost use mathlib.Core.Path.{_≡_};
+ghost use lib.ListN.{length};
+ghost use Rattle.walk.specs.Outcome.{mapOutcome};
+ghost use Rattle.walk.specs.Lists.{listAfter};
+ghost use Rattle.utf16.specs.Decoding;
+ghost use Rattle.entry_table.specs.Table.{table};
+ghost use Rattle.chain.specs.Settings.{depth};
+ghost use Rattle.chain.specs.Tracing.{chainAfter};
+ghost use Rattle.path.specs.Text.{placeText, placeLength, pathText};
+ghost use Rattle.path.specs.Telling.{telling, told, place, decoding, outcome};
+use crate::text::path_length;
+use crate::text::place_length;
+use crate::text::put_path;
+use crate::text::put_place;
+use chain::ChainAnswer;
+use chain::DEPTH;
+use chain::ResolvedPath;
+use chain::places::list_chain;
+use chain::trace;
+use entry_table::EntryKey;
+use entry_table::NamePlace;
+use entry_table::names::is_inside;
+use utf16::Decoded;
+use walk::ABOVE_DOMAIN;
+use walk::DOMAIN;
+use walk::NAME_OUTSIDE;
+use walk::TEXT_FULL;
+
+// What a path answers: its names and end, and how many bytes its text takes; or a refusal's number.
+pub enum PathAnswer {
+    Path { path: ResolvedPath, text: usize },
+    Refused(u32),
+}
+
+// The path of a key. Its text stands at the front of the lent text.
+pub fn path(
+    journal: &[u8],
+    image: &[u8],
+    slots: &[u64],
+    used: usize,
+    key: EntryKey,
+    list: &mut [u64],
+    text: &mut [u8],
+) -> PathAnswer
+    ensures { λ r. ⌜ outcome r ≡ mapOutcome (told (now (journal .entry)) (now (image .entry))) (telling (now (journal .entry)) (now (image .entry)) (table (now (slots .entry)) used) depth key (length (now (text .entry)))) ⌝ }
+    ensures { λ _. ⌜ now (list .exit) ≡ chainAfter (telling (now (journal .entry)) (now (image .entry)) (table (now (slots .entry)) used) depth key (length (now (text .entry)))) (now (list .entry)) ⌝ }
+    ensures { λ _. ⌜ now (text .exit) ≡ listAfter (pathText (now (journal .entry)) (now (image .entry))) (telling (now (journal .entry)) (now (image .entry)) (table (now (slots .entry)) used) depth key (length (now (text .entry)))) (now (text .entry)) ⌝ }
+{
+    match trace(journal.len(), image.len(), slots, used, key, DEPTH) {
+        ChainAnswer::Refused(n) => PathAnswer::Refused(n),
+        ChainAnswer::Resolved(path) => {
+            let end = path.end;
+            let n = path_length(journal, image, slots, used, key, DEPTH + 1, end);
+            if text.len() < n {
+                return PathAnswer::Refused(TEXT_FULL);
+            }
+            list_chain(slots, used, key, DEPTH + 1, list, path.names);
+            put_path(journal, image, slots, used, key, DEPTH + 1, end, text);
+            PathAnswer::Path { path, text: n }
+        }
+    }
+}
+
+// The text of the name at a place, at the front of the lent text. An odd last byte is dropped.
+// Refused, with nothing written: 1, 7 the place, with all its bytes, is outside its slice, 8.
+pub fn decode(
+    journal: &[u8],
+    image: &[u8],
+    source: u64,
+    offset: u64,
+    size: u64,
+    text: &mut [u8],
+) -> Decoded
+    ensures { λ r. ⌜ Rattle.utf16.specs.Decoding.outcome r ≡ mapOutcome (placeLength (now (journal .entry)) (now (image .entry))) (decoding (now (journal .entry)) (now (image .entry)) (place source offset size) (length (now (text .entry)))) ⌝ }
+    ensures { λ _. ⌜ now (text .exit) ≡ listAfter (placeText (now (journal .entry)) (now (image .entry))) (decoding (now (journal .entry)) (now (image .entry)) (place source offset size) (length (now (text .entry)))) (now (text .entry)) ⌝ }
+{
+    if DOMAIN < journal.len() {
+        return Decoded::Refused(ABOVE_DOMAIN);
+    }
+    if DOMAIN < image.len() {
+        return Decoded::Refused(ABOVE_DOMAIN);
+    }
+    let name = NamePlace {
+        source,
+        offset,
+        length: size,
+    };
+    if !is_inside(name, journal.len(), image.len()) {
+        return Decoded::Refused(NAME_OUTSIDE);
+    }
+    if text.len() < place_length(journal, image, name) {
+        return Decoded::Refused(TEXT_FULL);
+    }
+    Decoded::Text(put_place(journal, image, name, text, 0))
+}
