@@ -20,7 +20,21 @@ use Rattle.entry_table.specs.Storing.{usedAfter, wordsAfter}
 use Rattle.entry_table.specs.Storing.{outcome as storingOutcome}
 use Rattle.entry_table.specs.declared.Stored.{Stored}
 use Rattle.entry_table.specs.declared.Stored.the-variants.{Used}
+use Rattle.entry_table.specs.declared.EntryKey.{EntryKey}
+use Rattle.chain.specs.Chain.{Chain}
+use Rattle.chain.specs.Tracing.{chainAfter}
+use Rattle.chain.specs.Tracing.{outcome as chainOutcome}
+use Rattle.chain.specs.declared.ChainAnswer.{ChainAnswer}
+use Rattle.chain.specs.declared.ChainAnswer.the-variants.{Resolved}
+use Rattle.chain.specs.declared.ChainEnd.{ChainEnd}
+use Rattle.chain.specs.declared.ChainEnd.the-variants.{Root, Unknown, Unresolved}
+use Rattle.chain.specs.declared.ResolvedPath.{ResolvedPath}
+use Rattle.path.specs.Telling.{outcome as pathOutcome}
+use Rattle.path.specs.declared.PathAnswer.{PathAnswer}
+use Rattle.path.specs.declared.PathAnswer.the-variants.{Path}
+use Rattle.volume_history.specs.Path.{endNumbers, resolvedWords, toldWords}
 use Rattle.volume_history.specs.Table.{usedWords}
+use Rattle.volume_history.specs.declared.paths.EndNumbers.{EndNumbers}
 use Rattle.utf16.specs.Decoding.{outcome as decodingOutcome}
 use Rattle.utf16.specs.declared.Decoded.{Decoded}
 use Rattle.utf16.specs.declared.Decoded.the-variants.{Text}
@@ -49,3 +63,52 @@ module _ (x : Outcome Table) (s l : List ℕ) where
   pub stores-answered : 1 ≤ length l → (y : Stored) → storingOutcome y ≡ usedAfter x → {t m : List ℕ} {r : ℕ} → t ≡ wordsAfter x s
       → Out countWords (storingOutcome y) l m r → Stores (withRoom 1 (length l) x) s t l m r
   stores-answered h y e g o = let p = out-mapped x (out-same o e) in rw (room-enough x h) (p .answer, (g, p .list))
+
+-- what a call that resolves a path has to show: its number, the chain list, and the words of its answer
+abbrev pub Traces : (Chain → List ℕ) → Outcome Chain → List ℕ → List ℕ → List ℕ → List ℕ → ℕ → Type 0
+Traces words x s t l m r = (r ≡ number x) × ((t ≡ chainAfter x s) × (m ≡ listAfter words x l))
+
+-- and with its text
+abbrev pub Tells : (Chain → List ℕ) → (Chain → List ℕ) → Outcome Chain → List ℕ → List ℕ → List ℕ → List ℕ → List ℕ → List ℕ → ℕ → Type 0
+Tells text words x s t b d l m r = (r ≡ number x) × ((t ≡ chainAfter x s) × ((d ≡ listAfter text x b) × (m ≡ listAfter words x l)))
+
+-- x is the outcome where the list takes the n words
+module _ (text words : Chain → List ℕ) (n : ℕ) (x : Outcome Chain) (s b l : List ℕ) where
+  pub traces-short : length l < n → Traces words (withRoom n (length l) x) s s l l listFull
+  traces-short h = let e = room-few x h in rw e (refl, (refl, refl))
+
+  pub traces-answered : n ≤ length l → {t m : List ℕ} {r : ℕ} → t ≡ chainAfter x s → Out words x l m r → Traces words (withRoom n (length l) x) s t l m r
+  traces-answered h g o = rw (room-enough x h) (o .answer, (g, o .list))
+
+  pub tells-short : length l < n → Tells text words (withRoom n (length l) x) s s b b l l listFull
+  tells-short h = let e = room-few x h in rw e (refl, (refl, (refl, refl)))
+
+  pub tells-answered : n ≤ length l → {t d m : List ℕ} {r : ℕ} → t ≡ chainAfter x s → d ≡ listAfter text x b → Out words x l m r
+      → Tells text words (withRoom n (length l) x) s t b d l m r
+  tells-answered h g f o = rw (room-enough x h) (o .answer, (g, (f, o .list)))
+
+pub chain-answered : (y : ChainAnswer) (l : List ℕ) {p : ResolvedPath} → y ≡ Resolved p → 4 ≤ length l → {row m : List ℕ}
+    → row ≡ resolvedWords p → m ≡ sets l 0 row → Out resolvedWords (chainOutcome y) l m 0
+chain-answered y l e h f g = out-answered resolvedWords l (ap chainOutcome e) h f g
+
+pub path-answered : (y : PathAnswer) (l : List ℕ) {p : ResolvedPath} {n : ℕ} → y ≡ Path p n → 5 ≤ length l → {row m : List ℕ}
+    → row ≡ toldWords (record { path = p; text = n }) → m ≡ sets l 0 row → Out toldWords (pathOutcome y) l m 0
+path-answered y l e h f g = out-answered toldWords l (ap pathOutcome e) h f g
+
+-- the numbers of an end in a row
+module _ (p : ResolvedPath) {e : EndNumbers} (f : e ≡ endNumbers (p .end)) where
+  pub resolved-made : _≡_ {A = List ℕ} (p .names ∷ e .kind ∷ e .entry ∷ e .sequence ∷ []) (resolvedWords p)
+  resolved-made = rw f
+
+  pub told-made : (n : ℕ) → _≡_ {A = List ℕ} (p .names ∷ e .kind ∷ e .entry ∷ e .sequence ∷ n ∷ []) (toldWords (record { path = p; text = n }))
+  told-made n = rw f
+
+-- an end by its case
+pub end-root : {x : ChainEnd} → x ≡ Root → _≡_ {A = EndNumbers} (record { kind = 0; entry = 0; sequence = 0 }) (endNumbers x)
+end-root e = rw e
+
+pub end-unknown : {x : ChainEnd} {k : EntryKey} → x ≡ Unknown k → _≡_ {A = EndNumbers} (record { kind = 1; entry = k .entry; sequence = k .sequence }) (endNumbers x)
+end-unknown e = rw e
+
+pub end-unresolved : {x : ChainEnd} {k : EntryKey} → x ≡ Unresolved k → _≡_ {A = EndNumbers} (record { kind = 2; entry = k .entry; sequence = k .sequence }) (endNumbers x)
+end-unresolved e = rw e

@@ -1,3 +1,4 @@
 pub mod Image
 pub mod Names
 pub mod Table
+pub mod Path

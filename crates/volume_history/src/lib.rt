@@ -1,14 +1,18 @@
-// Image carving, the decoding of names and the lookup table as C functions, for Rust or C to link: a slice is a pointer and a
-// length, and an answer goes out as a number, 0 or a refusal's, with its words in a lent list.
+// Image carving, the lookup table, paths and the decoding of names as C functions, for Rust or C to link: a slice is a pointer and
+// a length, and an answer goes out as a number, 0 or a refusal's, with its words in a lent list.
 //
 //     mft_carve_entries    the MFT entries in an image
 //     utf16_decode         the text of a name
 //     table_insert, table_insert_if_absent, table_seed
 //                          the lookup table: an entry under its key, and all carved entries
+//     path_resolve, path_chain
+//                          the path of a key, with its text and without it
+//     path_decode          the text of a stored name
 //
 // Every function here is proved, and none has a `requires`. A refused call writes nothing, and one that answers writes the words
 // of its answer alone: those past them stay as they were.
 mod answers;
+mod paths;
 
 ghost use mathlib.Core.Path.{_≡_};
 ghost use mathlib.Core.Bool.{true, false};
@@ -17,8 +21,13 @@ ghost use Rattle.usn_journal_reader.specs.Answers.{number};
 ghost use Rattle.usn_journal_reader.specs.Journal.{countWords};
 ghost use Rattle.mft_carver.specs.Carve.{statsWords};
 ghost use Rattle.entry_table.specs.Storing.{wordsAfter};
+ghost use Rattle.chain.specs.Chain.{resolved};
+ghost use Rattle.chain.specs.Tracing.{chainAfter};
+ghost use Rattle.path.specs.Text.{placeText, placeLength, pathText};
+ghost use Rattle.path.specs.Telling.{told, place};
 ghost use Rattle.volume_history.specs.Image.{carveCall, carvedWords};
 ghost use Rattle.volume_history.specs.Names.{decodeCall, decodedBytes};
+ghost use Rattle.volume_history.specs.Path.{resolvedWords, toldWords, resolveCall, chainCall, placeCall};
 ghost use Rattle.volume_history.specs.Table.{keyOf, infoOf, insertCall, seedCall, usedWords};
 use crate::answers::STATS_WORDS;
 use crate::answers::TEXT_WORDS;
@@ -26,6 +35,10 @@ use crate::answers::USED_WORDS;
 use crate::answers::put_length;
 use crate::answers::put_stats;
 use crate::answers::put_used;
+use crate::paths::CHAIN_WORDS;
+use crate::paths::PATH_WORDS;
+use crate::paths::put_chain;
+use crate::paths::put_path;
 use entry_table::EntryInfo;
 use entry_table::EntryKey;
 use entry_table::NamePlace;
@@ -158,6 +171,106 @@ pub extern "C" fn table_seed(
         return LIST_FULL;
     }
     put_used(entry_table::seed(journal, image, slots, used, entries), out)
+}
+
+// The path of a key, with its text in front of text. The places of its names go to the front of chain, the top one first, three
+// words each: source, offset, length; chain is left alone where it has no room for all of them. 5 words of out: the names, what
+// they hang under (0 the root, 1 an unknown key, 2 an unresolved one), that key's entry and sequence (0, 0 for the root), and the
+// bytes of the text.
+// Answers 0, or refuses: 5 out has fewer than 5 words, 1 journal or image is above the domain, 9 used is above the slots, 7 the
+// name's place of a used slot is outside its slice, 8 the text is too small.
+#[no_mangle]
+pub extern "C" fn path_resolve(
+    journal: &[u8],
+    image: &[u8],
+    slots: &[u64],
+    used: usize,
+    entry: u64,
+    sequence: u64,
+    chain: &mut [u64],
+    text: &mut [u8],
+    out: &mut [u64],
+) -> u32
+    ensures { λ r. ⌜ r ≡ number (resolveCall (now (journal .entry)) (now (image .entry)) (now (slots .entry)) used (keyOf entry sequence) (now (text .entry)) (now (out .entry))) ⌝ }
+    ensures { λ _. ⌜ now (chain .exit) ≡ chainAfter (resolveCall (now (journal .entry)) (now (image .entry)) (now (slots .entry)) used (keyOf entry sequence) (now (text .entry)) (now (out .entry))) (now (chain .entry)) ⌝ }
+    ensures { λ _. ⌜ now (text .exit) ≡ listAfter (pathText (now (journal .entry)) (now (image .entry))) (resolveCall (now (journal .entry)) (now (image .entry)) (now (slots .entry)) used (keyOf entry sequence) (now (text .entry)) (now (out .entry))) (now (text .entry)) ⌝ }
+    ensures { λ _. ⌜ now (out .exit) ≡ listAfter (λ c. toldWords (told (now (journal .entry)) (now (image .entry)) c)) (resolveCall (now (journal .entry)) (now (image .entry)) (now (slots .entry)) used (keyOf entry sequence) (now (text .entry)) (now (out .entry))) (now (out .entry)) ⌝ }
+{
+    if out.len() < PATH_WORDS {
+        return LIST_FULL;
+    }
+    put_path(
+        path::path(
+            journal,
+            image,
+            slots,
+            used,
+            EntryKey { entry, sequence },
+            chain,
+            text,
+        ),
+        out,
+    )
+}
+
+// The path of a key without its text: 4 words of out, as above but for the text's bytes.
+// Answers 0, or refuses: 5 out has fewer than 4 words, 1, 9 and 7 as above.
+#[no_mangle]
+pub extern "C" fn path_chain(
+    journal: &[u8],
+    image: &[u8],
+    slots: &[u64],
+    used: usize,
+    entry: u64,
+    sequence: u64,
+    chain: &mut [u64],
+    out: &mut [u64],
+) -> u32
+    ensures { λ r. ⌜ r ≡ number (chainCall (now (journal .entry)) (now (image .entry)) (now (slots .entry)) used (keyOf entry sequence) (now (out .entry))) ⌝ }
+    ensures { λ _. ⌜ now (chain .exit) ≡ chainAfter (chainCall (now (journal .entry)) (now (image .entry)) (now (slots .entry)) used (keyOf entry sequence) (now (out .entry))) (now (chain .entry)) ⌝ }
+    ensures { λ _. ⌜ now (out .exit) ≡ listAfter (λ c. resolvedWords (resolved c)) (chainCall (now (journal .entry)) (now (image .entry)) (now (slots .entry)) used (keyOf entry sequence) (now (out .entry))) (now (out .entry)) ⌝ }
+{
+    if out.len() < CHAIN_WORDS {
+        return LIST_FULL;
+    }
+    put_chain(
+        chain::path_chain(
+            journal,
+            image,
+            slots,
+            used,
+            EntryKey { entry, sequence },
+            chain,
+        ),
+        out,
+    )
+}
+
+// The name at a place of the journal (source 0) or of the image (any other), as UTF-8 in front of text, and how many bytes that
+// takes, a word of out.
+// Answers 0, or refuses: 5 out has no word, 1 journal or image is above the domain, 7 the place is outside its slice, 8 the text
+// is too small.
+#[no_mangle]
+pub extern "C" fn path_decode(
+    journal: &[u8],
+    image: &[u8],
+    source: u64,
+    offset: u64,
+    length: u64,
+    text: &mut [u8],
+    out: &mut [u64],
+) -> u32
+    ensures { λ r. ⌜ r ≡ number (placeCall (now (journal .entry)) (now (image .entry)) (place source offset length) (now (text .entry)) (now (out .entry))) ⌝ }
+    ensures { λ _. ⌜ now (text .exit) ≡ listAfter (placeText (now (journal .entry)) (now (image .entry))) (placeCall (now (journal .entry)) (now (image .entry)) (place source offset length) (now (text .entry)) (now (out .entry))) (now (text .entry)) ⌝ }
+    ensures { λ _. ⌜ now (out .exit) ≡ listAfter (λ p. countWords (placeLength (now (journal .entry)) (now (image .entry)) p)) (placeCall (now (journal .entry)) (now (image .entry)) (place source offset length) (now (text .entry)) (now (out .entry))) (now (out .entry)) ⌝ }
+{
+    if out.len() < TEXT_WORDS {
+        return LIST_FULL;
+    }
+    put_length(
+        path::decode(journal, image, source, offset, length, text),
+        out,
+    )
 }
 
 // What is known of a key, from its numbers.
