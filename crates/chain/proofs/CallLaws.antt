@@ -10,7 +10,7 @@ use Rattle.walk.specs.Outcome.{Outcome, refused, answered, mapOutcome}
 use Rattle.walk.proofs.ChoiceLaws.{cond-cases}
 use Rattle.walk.specs.Refusals.{aboveDomain, nameOutside, badState, domain}
 use Rattle.entry_table.specs.Names.{Lengths, allInside}
-use Rattle.entry_table.specs.Slots.{slotsIn, infosIn}
+use Rattle.entry_table.specs.Slots.{slotsIn, namesIn}
 use Rattle.entry_table.specs.Table.{Table}
 use Rattle.entry_table.specs.declared.EntryKey.{EntryKey}
 use Rattle.chain.specs.declared.ResolvedPath.{ResolvedPath}
@@ -47,11 +47,11 @@ module _ (ls : Lengths) (t : Table) (depth : ℕ) (k : EntryKey) where
       traced-state h = both-within ls _ a b ∙ simp (lt-ltb _ _ h)
 
       module _ (u : t .used ≤ slotsIn (t .words)) where
-        pub traced-outside : allInside ls (infosIn (t .words) (t .used)) ≡ false → tracing ls t depth k ≡ refused nameOutside
+        pub traced-outside : allInside ls (namesIn (t .words) (t .used)) ≡ false → tracing ls t depth k ≡ refused nameOutside
         unfolding tracing
         traced-outside e = both-within ls _ a b ∙ simp (le-ltb _ _ u, e)
 
-        pub traced : allInside ls (infosIn (t .words) (t .used)) ≡ true → tracing ls t depth k ≡ answered (chainOf t depth k)
+        pub traced : allInside ls (namesIn (t .words) (t .used)) ≡ true → tracing ls t depth k ≡ answered (chainOf t depth k)
         unfolding tracing
         traced e = both-within ls _ a b ∙ simp (le-ltb _ _ u, e)
 
@@ -60,7 +60,7 @@ pub record Traced (ls : Lengths) (t : Table) (depth : ℕ) (k : EntryKey) (p : R
   pub journal : ls .journal ≤ domain
   pub image : ls .image ≤ domain
   pub fits : t .used ≤ slotsIn (t .words)
-  pub places : allInside ls (infosIn (t .words) (t .used)) ≡ true
+  pub places : allInside ls (namesIn (t .words) (t .used)) ≡ true
   pub path : p ≡ resolved (chainOf t depth k)
 
 never : {A B : Type 0} {n : ℕ} {x : A} → answered x ≡ refused n → B
@@ -74,7 +74,7 @@ module _ (ls : Lengths) (t : Table) (depth : ℕ) (k : EntryKey) where
       cond-cases P (ltb domain (ls .journal)) (λ y e. never e)
       (λ journal. cond-cases P (ltb domain (ls .image)) (λ y e. never e)
       (λ image. cond-cases P (ltb (slotsIn (t .words)) (t .used)) (λ y e. never e)
-      (λ fits. cond-cases P (not (allInside ls (infosIn (t .words) (t .used)))) (λ y e. never e)
+      (λ fits. cond-cases P (not (allInside ls (namesIn (t .words) (t .used)))) (λ y e. never e)
       (λ places e.
       record {
         journal = ltb-false _ _ journal;

@@ -1,3 +1,4 @@
 pub mod ChainLaws
 pub mod PlaceLaws
 pub mod CallLaws
+pub mod TwoRuns

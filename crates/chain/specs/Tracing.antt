@@ -8,7 +8,7 @@ use Rattle.walk.specs.Outcome.{Outcome, refused, answered}
 use Rattle.walk.specs.Lists.{overwrite}
 use Rattle.walk.specs.Refusals.{aboveDomain, nameOutside, badState, domain}
 use Rattle.entry_table.specs.Names.{Lengths, allInside}
-use Rattle.entry_table.specs.Slots.{slotsIn, infosIn}
+use Rattle.entry_table.specs.Slots.{slotsIn, namesIn}
 use Rattle.entry_table.specs.Table.{Table}
 use Rattle.entry_table.specs.declared.EntryKey.{EntryKey}
 use Rattle.entry_table.specs.declared.NamePlace.{NamePlace}
@@ -26,7 +26,7 @@ unfoldable pub tracing : Lengths → Table → ℕ → EntryKey → Outcome Chai
 tracing ls t depth k =
     inDomain ls
     (cond (ltb (slotsIn (t .words)) (t .used)) (refused badState)
-    (cond (not (allInside ls (infosIn (t .words) (t .used)))) (refused nameOutside)
+    (cond (not (allInside ls (namesIn (t .words) (t .used)))) (refused nameOutside)
     (answered (chainOf t depth k))))
 
 -- the words with the chain's places in front, where there is room for all of them

@@ -2,3 +2,5 @@ pub mod MarkerLaws
 pub mod NameLaws
 pub mod PathLaws
 pub mod CallLaws
+pub mod TwoRuns
+pub mod Examples

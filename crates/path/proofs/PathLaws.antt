@@ -6,7 +6,7 @@ use mathlib.Core.Bool.{Bool, true, false}
 use native.Mathlib.Omega.{arith}
 use lib.ListN.{length, length-append}
 use Rattle.entry_table.specs.Names.{lengthsOf, inside, allInside}
-use Rattle.entry_table.specs.Slots.{infoAt, infosIn}
+use Rattle.entry_table.specs.Slots.{infoAt, nameAt, namesIn}
 use Rattle.entry_table.specs.Table.{Table}
 use Rattle.entry_table.specs.declared.EntryKey.{EntryKey}
 use Rattle.entry_table.specs.declared.EntryInfo.{EntryInfo}
@@ -20,9 +20,9 @@ use Rattle.path.specs.Text.{endText, placeText, stepText, namesText, pat
 use Rattle.path.proofs.NameLaws.{Sources, step-long, stepMost, step-most}
 
 -- the name of a used slot is inside
-pub slot-inside : (journal image : List ℕ) (t : Table) {i : ℕ} → allInside (lengthsOf journal image) (infosIn (t .words) (t .used)) ≡ true → i < t .used
+pub slot-inside : (journal image : List ℕ) (t : Table) {i : ℕ} → allInside (lengthsOf journal image) (namesIn (t .words) (t .used)) ≡ true → i < t .used
     → inside (lengthsOf journal image) (infoAt (t .words) i .name) ≡ true
-slot-inside journal image t {i} e h = all-inside-at (lengthsOf journal image) (infoAt (t .words)) 0 (t .used) i e (omega arith) (omega arith)
+slot-inside journal image t {i} e h = all-inside-at (lengthsOf journal image) (nameAt (t .words)) 0 (t .used) i e (omega arith) (omega arith)
 
 module _ (journal image : List ℕ) (t : Table) (n : ℕ) (k : EntryKey) where
   -- the text of the names of a chain
@@ -41,7 +41,7 @@ module _ (journal image : List ℕ) (t : Table) (n : ℕ) (k : EntryKey) where
     names-long =
         omega (arith, ap length names-up, length-append (namesText journal image (chain t (n - 1) (info .parent) .places)) (stepText journal image (info .name)), step-long journal image (info .name))
 
-    pub name-inside : allInside (lengthsOf journal image) (infosIn (t .words) (t .used)) ≡ true → inside (lengthsOf journal image) (info .name) ≡ true
+    pub name-inside : allInside (lengthsOf journal image) (namesIn (t .words) (t .used)) ≡ true → inside (lengthsOf journal image) (info .name) ≡ true
     name-inside a = rw e (slot-inside journal image t a (chain-up t n k h .slot))
 
   pub path-parts : {e : ChainEnd} → e ≡ chain t n k .end → pathText journal image (chain t n k) ≡ endText e ++ namesText journal image (chain t n k .places)
@@ -52,7 +52,7 @@ module _ (journal image : List ℕ) (t : Table) (n : ℕ) (k : EntryKey) where
   path-long {e} h = ap length (path-parts h) ∙ length-append (endText e) (namesText journal image (chain t n k .places))
 
 -- at most so many bytes a level
-module _ (journal image : List ℕ) (t : Table) (w : Sources journal image) (a : allInside (lengthsOf journal image) (infosIn (t .words) (t .used)) ≡ true) where
+module _ (journal image : List ℕ) (t : Table) (w : Sources journal image) (a : allInside (lengthsOf journal image) (namesIn (t .words) (t .used)) ≡ true) where
   pub names-most : (n : ℕ) (k : EntryKey) → length (namesText journal image (chain t n k .places)) ≤ n * stepMost
   unfolding chain
   names-most zero k = omega arith

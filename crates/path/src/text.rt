@@ -6,7 +6,7 @@ ghost use lib.ListN.{length};
 ghost use lib.Seq.{sets};
 ghost use Rattle.walk.specs.Refusals.{domain};
 ghost use Rattle.entry_table.specs.Names.{lengthsOf, inside, allInside};
-ghost use Rattle.entry_table.specs.Slots.{stride, infosIn};
+ghost use Rattle.entry_table.specs.Slots.{stride, namesIn};
 ghost use Rattle.entry_table.specs.Table.{table};
 ghost use Rattle.chain.specs.Settings.{deepest};
 ghost use Rattle.chain.specs.Chain.{chain};
@@ -129,7 +129,7 @@ pub fn names_length(
     levels: usize,
 ) -> usize
     requires { ⌜ used * stride ≤ length (now slots) ⌝ }
-    requires { ⌜ allInside (lengthsOf (now journal) (now image)) (infosIn (now slots) used) ≡ true ⌝ }
+    requires { ⌜ allInside (lengthsOf (now journal) (now image)) (namesIn (now slots) used) ≡ true ⌝ }
     requires { ⌜ (length (now journal) ≤ domain) × (length (now image) ≤ domain) × (levels ≤ deepest + 1) ⌝ }
     ensures { λ r. ⌜ r ≡ length (namesText (now (journal .entry)) (now (image .entry)) (chain (table (now (slots .entry)) used) levels key .places)) ⌝ }
 {
@@ -158,7 +158,7 @@ pub fn put_names(
     at: usize,
 ) -> usize
     requires { ⌜ used * stride ≤ length (now slots) ⌝ }
-    requires { ⌜ allInside (lengthsOf (now journal) (now image)) (infosIn (now slots) used) ≡ true ⌝ }
+    requires { ⌜ allInside (lengthsOf (now journal) (now image)) (namesIn (now slots) used) ≡ true ⌝ }
     requires { ⌜ at + length (namesText (now journal) (now image) (chain (table (now slots) used) levels key .places)) ≤ length (now text) ⌝ }
     ensures { λ r. ⌜ r ≡ at + length (namesText (now (journal .entry)) (now (image .entry)) (chain (table (now (slots .entry)) used) levels key .places)) ⌝ }
     ensures { λ _. ⌜ now (text .exit) ≡ sets (now (text .entry)) at (namesText (now (journal .entry)) (now (image .entry)) (chain (table (now (slots .entry)) used) levels key .places)) ⌝ }
@@ -186,7 +186,7 @@ pub fn path_length(
     end: ChainEnd,
 ) -> usize
     requires { ⌜ used * stride ≤ length (now slots) ⌝ }
-    requires { ⌜ allInside (lengthsOf (now journal) (now image)) (infosIn (now slots) used) ≡ true ⌝ }
+    requires { ⌜ allInside (lengthsOf (now journal) (now image)) (namesIn (now slots) used) ≡ true ⌝ }
     requires { ⌜ (length (now journal) ≤ domain) × (length (now image) ≤ domain) × (levels ≤ deepest + 1) ⌝ }
     requires { ⌜ end ≡ chain (table (now slots) used) levels key .end ⌝ }
     ensures { λ r. ⌜ r ≡ length (pathText (now (journal .entry)) (now (image .entry)) (chain (table (now (slots .entry)) used) levels key)) ⌝ }
@@ -206,7 +206,7 @@ pub fn put_path(
     text: &mut [u8],
 ) -> usize
     requires { ⌜ used * stride ≤ length (now slots) ⌝ }
-    requires { ⌜ allInside (lengthsOf (now journal) (now image)) (infosIn (now slots) used) ≡ true ⌝ }
+    requires { ⌜ allInside (lengthsOf (now journal) (now image)) (namesIn (now slots) used) ≡ true ⌝ }
     requires { ⌜ end ≡ chain (table (now slots) used) levels key .end ⌝ }
     requires { ⌜ length (pathText (now journal) (now image) (chain (table (now slots) used) levels key)) ≤ length (now text) ⌝ }
     ensures { λ r. ⌜ r ≡ length (pathText (now (journal .entry)) (now (image .entry)) (chain (table (now (slots .entry)) used) levels key)) ⌝ }
