@@ -73,13 +73,14 @@ abbrev pub Tells : (Chain → List ℕ) → (Chain → List ℕ) → Outcome Cha
 Tells text words x s t b d l m r = (r ≡ number x) × ((t ≡ chainAfter x s) × ((d ≡ listAfter text x b) × (m ≡ listAfter words x l)))
 
 -- x is the outcome where the list takes the n words
-module _ (text words : Chain → List ℕ) (n : ℕ) (x : Outcome Chain) (s b l : List ℕ) where
+module _ (words : Chain → List ℕ) (n : ℕ) (x : Outcome Chain) (s l : List ℕ) where
   pub traces-short : length l < n → Traces words (withRoom n (length l) x) s s l l listFull
   traces-short h = let e = room-few x h in rw e (refl, (refl, refl))
 
   pub traces-answered : n ≤ length l → {t m : List ℕ} {r : ℕ} → t ≡ chainAfter x s → Out words x l m r → Traces words (withRoom n (length l) x) s t l m r
   traces-answered h g o = rw (room-enough x h) (o .answer, (g, o .list))
 
+module _ (text words : Chain → List ℕ) (n : ℕ) (x : Outcome Chain) (s b l : List ℕ) where
   pub tells-short : length l < n → Tells text words (withRoom n (length l) x) s s b b l l listFull
   tells-short h = let e = room-few x h in rw e (refl, (refl, (refl, refl)))
 

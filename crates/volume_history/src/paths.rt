@@ -15,6 +15,7 @@ use walk::put_words;
 
 // The words of a path's answer without text, and with it.
 pub const CHAIN_WORDS: usize = 4;
+
 pub const PATH_WORDS: usize = 5;
 
 // What a chain ends in, as numbers: 0 the root, 1 an unknown key, 2 an unresolved one, and the key, which the root lacks.
@@ -60,7 +61,8 @@ pub(crate) fn put_path(answer: PathAnswer, out: &mut [u64]) -> u32
 fn resolved_row(path: ResolvedPath) -> [u64; 4]
     ensures { λ row. ⌜ row ≡ resolvedWords path ⌝ }
 {
-    let end = end_numbers(path.end);
+    let last = path.end;
+    let end = end_numbers(last);
     [path.names as u64, end.kind, end.entry, end.sequence]
 }
 
@@ -68,7 +70,8 @@ fn resolved_row(path: ResolvedPath) -> [u64; 4]
 fn told_row(path: ResolvedPath, text: usize) -> [u64; 5]
     ensures { λ row. ⌜ row ≡ toldWords (record { path = path; text = text }) ⌝ }
 {
-    let end = end_numbers(path.end);
+    let last = path.end;
+    let end = end_numbers(last);
     [
         path.names as u64,
         end.kind,

@@ -1,0 +1,30 @@
+-- Too few words are refused first; otherwise the chain's equations say what goes out.
+use denote.Ref.{now}
+use Rattle.usn_journal_reader.proofs.AnswerLaws.{out-same, out-mapped}
+use Rattle.volume_history.proofs.AnswerLaws.{traces-short, traces-answered}
+use borrow.Author.Needs.{needs}
+use Rattle.volume_history.proofs.path_chain.Statement.{statement}
+use Rattle.volume_history.proofs.path_chain.Tie as tie
+
+returns : tie.Need-returns
+returns c = traces-short _ _ _ _ (now (c .before .before .before .before .before .before .args .out)) (c .if1 .taken)
+
+path-chain-requires : tie.Need-path-chain-requires
+path-chain-requires c κs = search needs
+
+put-chain-requires : tie.Need-put-chain-requires
+put-chain-requires c κs = search needs
+
+same-length : tie.Need-same-length
+same-length c = search needs
+
+same-length-2 : tie.Need-same-length-2
+same-length-2 c = search needs
+
+returns-2 : tie.Need-returns-2
+returns-2 c = traces-answered _ _ _ _ (now (c .before .before .before .before .before .before .before .before .before .before .before .before .before .before .args .out)) (c .before .before .before .before .before .before .before .before .if1 .left) (c .before .before .before .before .before .before .path-chain .ensures .1) (out-mapped _ (out-same (record { answer = c .before .before .put-chain .ensures .0; list = c .before .before .put-chain .ensures .1 }) (c .before .before .before .before .before .before .path-chain .ensures .0)))
+
+pub path-chain-spec : {M : Type 1} → statement M
+path-chain-spec =
+    tie.close
+    (tie.spec returns path-chain-requires put-chain-requires same-length same-length-2 returns-2)
