@@ -50,8 +50,8 @@ sound ls t depth k {c} e =
       names = names-most t (depth + 1) k;
       slots = chain-slots t (depth + 1) k;
       insides = λ p m.
-      let o = chain-slots t (depth + 1) k p m in
-      rw (o .name) (all-inside-at ls (nameAt (t .words)) 0 (t .used) (o .slot) (w .places) (omega arith) (omega (arith, o .used)));
+          let o = chain-slots t (depth + 1) k p m in
+          rw (o .name) (all-inside-at ls (nameAt (t .words)) 0 (t .used) (o .slot) (w .places) (omega arith) (omega (arith, o .used)));
     }
 
 -- a chain is refused with 1, 9 or 7 alone
