@@ -4,3 +4,4 @@ pub mod PathLaws
 pub mod CallLaws
 pub mod TwoRuns
 pub mod Examples
+pub mod NestedLaws
