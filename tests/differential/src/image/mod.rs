@@ -1,11 +1,11 @@
 //! Images: the carver of MFT entries, `carve.rs` of the original, against the library's. The subject is `image`.
 
-mod cases;
+pub mod cases;
 mod comparison;
 mod edges;
 pub mod file;
 mod known;
-mod layout;
+pub mod layout;
 pub mod sample;
 mod walk;
 

@@ -1,0 +1,379 @@
+//! Our table beside the scope's and the Rust's, given the same calls: every answer, every word and every path is
+//! compared. A refused call changes nothing of ours and is left out on the Rust's side.
+
+use super::library::{
+    path_chain, path_resolve, table_insert, table_insert_if_absent, table_seed, Key, Slots, Sources, CHAIN_WORDS,
+    PATH_FIELDS, SLOT_FIELDS, SLOT_WORDS, TABLE_FIELDS,
+};
+use super::model::{self, bytes_at, carved, key, parent, place, Chain, Slot, Table};
+use crate::carve::CarvedMftEntry;
+use crate::difference::Finding;
+use crate::lent::{beginning, untouched, BEHIND};
+use crate::library::{ACCEPTED, NO_ROOM, TEXT_TOO_SMALL};
+use crate::names::comparison::{hex, text, untouched_byte};
+use crate::records::answers::named;
+use crate::rewind::{EntryInfo, EntryKey, RewindEngine};
+use std::collections::HashSet;
+
+/// How many words an answer of the table has, and one of a path.
+pub const STORED: usize = TABLE_FIELDS.len();
+pub const TOLD: usize = PATH_FIELDS.len();
+
+/// What is handed to a call beside what it is asked: the bytes of the names and the used slots.
+#[derive(Debug, Clone, Copy)]
+pub struct Given<'a> {
+    pub names: Sources<'a>,
+    pub used: usize,
+}
+
+/// What a call adds to the table.
+#[derive(Debug, Clone, Copy)]
+pub enum Added<'a> {
+    One { slot: Slot, replace: bool },
+    /// A list of carved entries, with those that the Rust's carver gave, where it is carved.
+    Listed { entries: &'a [u64], rust: Option<&'a [CarvedMftEntry]> },
+}
+
+/// How much a call is lent for the chain, the text and the answer.
+#[derive(Debug, Clone, Copy)]
+pub struct Room {
+    pub chain: usize,
+    pub text: usize,
+    pub out: usize,
+}
+
+/// A path as the scope tells it.
+#[derive(Debug, Clone)]
+pub struct Told {
+    pub chain: Chain,
+    pub text: String,
+}
+
+/// A path asked for, with the scope's answer: the path, or a refusal, 8 apart.
+pub struct Question<'a> {
+    given: Given<'a>,
+    key: Key,
+    pub told: Result<Told, u32>,
+}
+
+pub struct Pair<'a> {
+    pub names: Sources<'a>,
+    pub used: usize,
+    pub model: Table,
+    /// Our words, those lent and those behind them.
+    slots: Vec<u64>,
+    /// The Rust's table; none where a sequence has more than its 16 bits.
+    rust: Option<RewindEngine>,
+    /// How many used slots have the key of a lower one.
+    hidden: usize,
+}
+
+impl<'a> Pair<'a> {
+    /// Tables with these words, of which so many slots are used.
+    pub fn new(names: Sources<'a>, words: Vec<u64>, used: usize) -> Self {
+        let mut slots = words.clone();
+        slots.extend((0..BEHIND).map(|at| untouched(words.len() + at)));
+        let mut pair = Self {
+            names,
+            used: 0,
+            model: Table { words },
+            slots,
+            rust: None,
+            hidden: 0,
+        };
+        pair.reuse(used);
+        pair
+    }
+
+    /// Empty tables of so many words.
+    pub fn empty(names: Sources<'a>, words: usize) -> Self {
+        Self::new(names, (0..words).map(untouched).collect(), 0)
+    }
+
+    /// Goes on with so many used slots, whatever was used before. The Rust's table is made anew; of equal keys the
+    /// lowest slot is inserted last.
+    pub fn reuse(&mut self, used: usize) {
+        self.used = used;
+        let slots: Vec<Slot> = (0..used).map(|at| self.model.slot(at)).collect();
+        self.hidden = used - slots.iter().map(key).collect::<HashSet<Key>>().len();
+        self.rust = Some(RewindEngine::new());
+        for slot in slots.iter().rev() {
+            self.tell_rust(slot, true);
+        }
+    }
+
+    pub fn given(&self) -> Given<'a> {
+        Given {
+            names: self.names,
+            used: self.used,
+        }
+    }
+
+    /// The same addition to the Rust's table, as far as its sequences go.
+    fn tell_rust(&mut self, slot: &Slot, replace: bool) {
+        let (Some(key), Some(parent)) = (rust_key(key(slot)), rust_key(parent(slot))) else {
+            self.rust = None;
+            return;
+        };
+        let Some(rust) = &mut self.rust else { return };
+        // A place may lie outside, since calls are handed other slices too; no path is told while it does.
+        let name = bytes_at(self.names, place(slot)).map(text).unwrap_or_default();
+        match replace {
+            true => rust.insert(key, EntryInfo { name, parent }),
+            false => rust.seed_from_carved(&[CarvedMftEntry {
+                offset: 0,
+                entry_number: key.entry,
+                sequence_number: key.sequence,
+                filename: name,
+                parent_entry: parent.entry,
+                parent_sequence: parent.sequence,
+                is_directory: false,
+                is_in_use: false,
+            }]),
+        }
+    }
+
+    /// Adds to all three tables, with so many words lent for the answer. Gives whether it was accepted.
+    pub fn store(&mut self, given: Given, added: Added, out: usize) -> Result<bool, Finding> {
+        let slots = match added {
+            Added::One { slot, .. } => vec![slot],
+            Added::Listed { entries, .. } => carved(entries),
+        };
+        let replace = matches!(added, Added::One { replace: true, .. });
+        let expected = match out < STORED {
+            true => Err(NO_ROOM),
+            false => self.model.store(given.names, given.used, &slots, replace),
+        };
+        let mut answer: Vec<u64> = (0..out + BEHIND).map(untouched).collect();
+        let number = self.call(given, added, &mut answer[..out]);
+        let used = expected.map(|used| used as u64);
+        let what = against(number, used.err().unwrap_or(ACCEPTED))
+            .or_else(|| {
+                let front: &[u64] = used.as_ref().map_or(&[], std::slice::from_ref);
+                word_against(&answer, front).map(|(at, word)| format!("word {at} is {}, not {word}", answer[at]))
+            })
+            .or_else(|| self.slots_against());
+        if let Some(what) = what {
+            return Err(Finding {
+                call: format!("{added:?}, {} used, {out} words of answer lent", given.used),
+                what,
+                rust: format!("the scope: {expected:?}, {}", shown(&self.model, self.used)),
+                ours: format!("{number}, words {answer:?}"),
+            });
+        }
+        let Ok(used) = expected else { return Ok(false) };
+        self.used = used;
+        match (added, &mut self.rust) {
+            (Added::Listed { rust: Some(carved), .. }, Some(rust)) => rust.seed_from_carved(carved),
+            _ => slots
+                .iter()
+                .for_each(|slot| self.tell_rust(slot, replace)),
+        }
+        self.compare_length(added)?;
+        Ok(true)
+    }
+
+    fn call(&mut self, given: Given, added: Added, out: &mut [u64]) -> u32 {
+        let lent = &mut self.slots[..self.model.words.len()];
+        match added {
+            Added::One { slot, replace: true } => table_insert(given.names, lent, given.used, &slot, out),
+            Added::One { slot, .. } => table_insert_if_absent(given.names, lent, given.used, &slot, out),
+            Added::Listed { entries, .. } => table_seed(given.names, lent, given.used, entries, out),
+        }
+    }
+
+    /// The Rust's table has as many keys as ours.
+    fn compare_length(&self, added: Added) -> Result<(), Finding> {
+        let keys = self.used - self.hidden;
+        match &self.rust {
+            Some(rust) if rust.lookup_len() != keys => Err(Finding {
+                call: format!("{added:?}"),
+                what: "the Rust's table has another number of keys".to_string(),
+                rust: rust.lookup_len().to_string(),
+                ours: keys.to_string(),
+            }),
+            _ => Ok(()),
+        }
+    }
+
+    /// The first of our words that is not the scope's.
+    fn slots_against(&self) -> Option<String> {
+        let (at, word) = word_against(&self.slots, &self.model.words)?;
+        let (slot, field) = (at / SLOT_WORDS, SLOT_FIELDS[at % SLOT_WORDS]);
+        Some(format!("{field} of slot {slot} is {}, not {word}", self.slots[at]))
+    }
+
+    /// The scope's path of a key, which is the Rust's where the table is as the Rust has it.
+    pub fn ask<'b>(&self, given: Given<'b>, key: Key) -> Result<Question<'b>, Finding> {
+        let chain = self.model.chain(given.names, given.used, key);
+        let told = chain.map(|chain| Told {
+            text: chain.text(given.names),
+            chain,
+        });
+        let question = Question { given, key, told };
+        let (Ok(told), Some(rust), Some(asked)) = (&question.told, &self.rust, rust_key(key)) else {
+            return Ok(question);
+        };
+        if given.used == self.used {
+            let path = rust.resolve_path(&asked);
+            if path != told.text {
+                return Err(Finding {
+                    call: format!("resolve_path of {key:?}"),
+                    what: "the scope's path is not the Rust's".to_string(),
+                    rust: path,
+                    ours: format!("the scope: {}, {}", told.text, shown(&self.model, self.used)),
+                });
+            }
+        }
+        Ok(question)
+    }
+
+    /// Our path with its text.
+    pub fn resolve(&self, question: &Question, room: Room) -> Result<(), Finding> {
+        let mut lists = Lists::of(room);
+        let number = path_resolve(
+            question.given.names,
+            self.lent(question),
+            question.key,
+            &mut lists.chain[..room.chain],
+            &mut lists.text[..room.text],
+            &mut lists.out[..room.out],
+        );
+        let expected = match &question.told {
+            _ if room.out < TOLD => Err(NO_ROOM),
+            Err(refusal) => Err(*refusal),
+            Ok(told) if told.text.len() > room.text => Err(TEXT_TOO_SMALL),
+            Ok(told) => {
+                let [names, end, entry, sequence] = told.chain.answer();
+                let out = vec![names, end, entry, sequence, told.text.len() as u64];
+                Ok((told.chain.words(), told.text.as_bytes(), out))
+            }
+        };
+        self.compare("path_resolve", question, room, number, &lists, expected)
+    }
+
+    /// Our chain without text.
+    pub fn chain(&self, question: &Question, room: Room) -> Result<(), Finding> {
+        let mut lists = Lists::of(room);
+        let number = path_chain(
+            question.given.names,
+            self.lent(question),
+            question.key,
+            &mut lists.chain[..room.chain],
+            &mut lists.out[..room.out],
+        );
+        let expected = match &question.told {
+            _ if room.out < CHAIN_WORDS => Err(NO_ROOM),
+            Err(refusal) => Err(*refusal),
+            Ok(told) => Ok((told.chain.words(), &[][..], told.chain.answer().to_vec())),
+        };
+        self.compare("path_chain", question, room, number, &lists, expected)
+    }
+
+    fn lent(&self, question: &Question) -> Slots<'_> {
+        Slots {
+            words: &self.slots[..self.model.words.len()],
+            used: question.given.used,
+        }
+    }
+
+    /// The lent lists after a call against the words of the chain, which are written where there is room for all, the
+    /// text and the answer; or against a refusal, which writes nothing.
+    fn compare(
+        &self,
+        call: &str,
+        question: &Question,
+        room: Room,
+        number: u32,
+        lists: &Lists,
+        expected: Result<(&[u64], &[u8], Vec<u64>), u32>,
+    ) -> Result<(), Finding> {
+        let refusal = expected.as_ref().err().copied().unwrap_or(ACCEPTED);
+        let (chain, text, out) = expected.unwrap_or_default();
+        let chain = if chain.len() <= room.chain { chain } else { &[] };
+        let what = against(number, refusal)
+            .or_else(|| lists.against(chain, text, &out))
+            .or_else(|| self.slots_against());
+        let Some(what) = what else { return Ok(()) };
+        let Question { given, key, told } = question;
+        Err(Finding {
+            call: format!(
+                "{call} of {key:?}, {room:?} lent, {} used, journal of {} and image of {} bytes",
+                given.used,
+                given.names.journal.len(),
+                given.names.image.len()
+            ),
+            what,
+            rust: format!("the scope: {told:?}, {}", shown(&self.model, self.used)),
+            ours: format!("{number}, {}", lists.shown()),
+        })
+    }
+
+    /// Every key of the table and every parent, looked up in the scope's table and in the Rust's.
+    pub fn compare_keys(&self) -> Result<(), Finding> {
+        let slots = (0..self.used).map(|at| self.model.slot(at));
+        let keys: HashSet<Key> = slots.flat_map(|slot| [key(&slot), parent(&slot)]).collect();
+        keys.into_iter()
+            .try_for_each(|key| self.ask(self.given(), key).map(|_| ()))
+    }
+}
+
+/// What is lent to a path, all the words and bytes, those behind too.
+struct Lists {
+    chain: Vec<u64>,
+    text: Vec<u8>,
+    out: Vec<u64>,
+}
+
+impl Lists {
+    fn of(room: Room) -> Self {
+        Self {
+            chain: (0..room.chain + BEHIND).map(untouched).collect(),
+            text: (0..room.text + BEHIND).map(untouched_byte).collect(),
+            out: (0..room.out + BEHIND).map(untouched).collect(),
+        }
+    }
+
+    /// The first word or byte that is not that of these, in front, or behind them not untouched.
+    fn against(&self, chain: &[u64], text: &[u8], out: &[u64]) -> Option<String> {
+        if let Some((at, word)) = word_against(&self.out, out) {
+            let field = PATH_FIELDS.get(at).unwrap_or(&"a word behind the answer");
+            return Some(format!("{field} is {}, not {word}", self.out[at]));
+        }
+        if let Some((at, word)) = word_against(&self.chain, chain) {
+            return Some(format!("word {at} of the chain is {}, not {word}", self.chain[at]));
+        }
+        let expected = |at: usize| text.get(at).copied().unwrap_or(untouched_byte(at));
+        let at = (0..self.text.len()).find(|&at| self.text[at] != expected(at))?;
+        let (ours, expected) = (self.text[at], expected(at));
+        Some(format!("byte {at} of the text is {ours:02x}, not {expected:02x}"))
+    }
+
+    fn shown(&self) -> String {
+        let (chain, text) = (beginning(&self.chain), hex(beginning(&self.text)));
+        format!("{}, chain {chain:?}, text {text}", named(&PATH_FIELDS, &self.out))
+    }
+}
+
+/// The number is not the one expected.
+fn against(number: u32, expected: u32) -> Option<String> {
+    (number != expected).then(|| format!("the answer is {number}, not {expected}"))
+}
+
+/// The first word that is not that of `front`, or behind these not untouched, with what it should be.
+fn word_against(words: &[u64], front: &[u64]) -> Option<(usize, u64)> {
+    let expected = |at: usize| front.get(at).copied().unwrap_or(untouched(at));
+    let at = (0..words.len()).find(|&at| words[at] != expected(at))?;
+    Some((at, expected(at)))
+}
+
+/// The Rust's key, whose sequence has 16 bits.
+fn rust_key([entry, sequence]: Key) -> Option<EntryKey> {
+    Some(EntryKey::new(entry, sequence.try_into().ok()?))
+}
+
+/// The used slots of the scope's table, as far as they are printed.
+fn shown(table: &model::Table, used: usize) -> String {
+    let slots: Vec<Slot> = (0..used.min(table.slots())).map(|at| table.slot(at)).collect();
+    format!("{} slots, used {:?}", table.slots(), beginning(&slots))
+}

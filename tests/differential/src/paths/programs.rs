@@ -1,0 +1,240 @@
+//! The random programs: up to 64 calls on one table, refused ones among them, and then every key looked up.
+
+use super::cases::World;
+use super::library::{Key, Sources, CHAIN_WORDS, SLOT_WORDS};
+use super::model::{key, parent};
+use super::pair::{Added, Given, Pair, Question, Room, STORED, TOLD};
+use super::places;
+use crate::difference::Finding;
+use crate::lent::untouched;
+use crate::names::comparison::{self as decoding, OUT};
+use crate::random::Random;
+
+/// The most calls of a program.
+const CALLS: usize = 64;
+
+/// One in so many name places handed in lies outside its slice.
+const OUTSIDE: usize = 32;
+
+/// The names of a ladder: about as many as are followed.
+const LADDER: [usize; 2] = [250, 262];
+
+/// How many calls of each kind the programs made.
+#[derive(Default)]
+pub struct Made {
+    pub stored: u64,
+    pub refused: u64,
+    pub paths: u64,
+}
+
+/// A program while it runs.
+struct Program<'a> {
+    random: &'a mut Random,
+    world: &'a World,
+    /// A slice above the domain.
+    above: &'a [u8],
+    pair: Pair<'a>,
+    made: &'a mut Made,
+}
+
+/// Runs a program on what was made for it.
+pub fn run(random: &mut Random, world: &World, above: &[u8], made: &mut Made) -> Result<(), Finding> {
+    let pair = table(random, world);
+    let mut program = Program {
+        random,
+        world,
+        above,
+        pair,
+        made,
+    };
+    if program.random.one_in(200) {
+        program.ladder()?;
+    }
+    for call in 0..program.random.between(1, CALLS) {
+        program.call().map_err(|finding| Finding {
+            call: format!("call {call}: {}", finding.call),
+            ..finding
+        })?;
+    }
+    program.pair.compare_keys()
+}
+
+/// A table that is empty, or has slots of any keys, equal ones too; some of its words may be no whole slot.
+fn table<'a>(random: &mut Random, world: &'a World) -> Pair<'a> {
+    let slots = match random.below(4) {
+        0 => random.below(4),
+        1 => CALLS,
+        _ => random.below(world.keys.len() + 4),
+    };
+    let words = SLOT_WORDS * slots + random.pick(&[0, 0, 1, 6]);
+    if !random.one_in(4) {
+        return Pair::empty(world.names(), words);
+    }
+    let outside = random.pick(&[8, 1000]);
+    let mut held: Vec<u64> = (0..slots).flat_map(|_| world.slot(random, outside)).collect();
+    held.extend((held.len()..words).map(untouched));
+    Pair::new(world.names(), held, random.below(slots + 1))
+}
+
+impl<'a> Program<'a> {
+    fn call(&mut self) -> Result<(), Finding> {
+        match self.random.below(16) {
+            choice @ 0..=7 => {
+                let slot = self.world.slot(self.random, OUTSIDE);
+                let replace = choice < 5;
+                self.store(Added::One { slot, replace })
+            }
+            8 => {
+                let carved = &self.world.carved;
+                self.store(Added::Listed {
+                    entries: &carved.entries,
+                    rust: Some(&carved.rust),
+                })
+            }
+            9 | 10 => {
+                let entries = self.world.list(self.random);
+                self.store(Added::Listed {
+                    entries: &entries,
+                    rust: None,
+                })
+            }
+            11 if self.random.one_in(8) => {
+                let used = self.random.below(self.pair.used + 1);
+                self.pair.reuse(used);
+                Ok(())
+            }
+            11..=14 => self.path(),
+            _ => self.decode(),
+        }
+    }
+
+    fn store(&mut self, added: Added) -> Result<(), Finding> {
+        let given = self.given();
+        let out = self.random.pick(&[STORED, STORED, STORED, STORED, STORED, STORED, STORED + 1, STORED + 3, 0]);
+        match self.pair.store(given, added, out)? {
+            true => self.made.stored += 1,
+            false => self.made.refused += 1,
+        }
+        Ok(())
+    }
+
+    /// The path of a key with a text that is a byte short, then with one that is just long enough, and with any room.
+    fn path(&mut self) -> Result<(), Finding> {
+        let (key, given) = (self.key(), self.given());
+        let question = self.pair.ask(given, key)?;
+        let full = full(&question);
+        let short = Room {
+            text: full.text.saturating_sub(1),
+            ..full
+        };
+        self.pair.resolve(&question, short)?;
+        self.pair.resolve(&question, full)?;
+        let any = self.any_room(full, TOLD);
+        self.pair.resolve(&question, any)?;
+        let any = self.any_room(full, CHAIN_WORDS);
+        self.pair.chain(&question, any)?;
+        self.made.paths += 1;
+        Ok(())
+    }
+
+    /// A chain just full, a word or more short, or longer; a text that is longer; and an answer of any words.
+    fn any_room(&mut self, full: Room, out: usize) -> Room {
+        let random = &mut *self.random;
+        let chain = match random.below(4) {
+            0 => full.chain,
+            1 => full.chain.saturating_sub(random.between(1, 3)),
+            2 => full.chain + random.between(1, 7),
+            _ => random.below(full.chain + 1),
+        };
+        Room {
+            chain,
+            text: full.text + random.below(9),
+            out: random.pick(&[out, out, out, out + 1, out + 3, out - 1, 0]),
+        }
+    }
+
+    fn decode(&mut self) -> Result<(), Finding> {
+        let place = self.world.place(self.random, 8);
+        let names = self.given().names;
+        let length = places::length(names, place);
+        let room = |text, out| decoding::Room { text, out };
+        let any = room(length + self.random.below(5), self.random.pick(&[OUT, OUT, OUT + 2, 0]));
+        places::compare(names, place, &[room(length.saturating_sub(1), OUT), room(length, OUT), any])
+    }
+
+    /// The key of a slot, its parent's, or any.
+    fn key(&mut self) -> Key {
+        let used = self.pair.used;
+        if used == 0 || self.random.one_in(3) {
+            return self.world.key(self.random);
+        }
+        let slot = self.pair.model.slot(self.random.below(used));
+        match self.random.below(8) {
+            0 => parent(&slot),
+            _ => key(&slot),
+        }
+    }
+
+    /// The bytes of the names and the used slots, seldom others than the table's: a slice cut or above the domain,
+    /// or more used than there are slots.
+    fn given(&mut self) -> Given<'a> {
+        let mut given = self.pair.given();
+        let Sources { journal, image } = &mut given.names;
+        match self.random.below(64) {
+            0 => *journal = self.above,
+            1 => *image = self.above,
+            2 => *journal = &journal[..self.random.below(journal.len() + 1)],
+            3 => *image = &image[..self.random.below(image.len() + 1)],
+            _ => {}
+        }
+        let slots = self.pair.model.slots();
+        given.used = match self.random.below(40) {
+            0 => slots + 1,
+            1 => self.random.pick(&[slots + 2, slots * SLOT_WORDS + 1, usize::MAX]),
+            _ => given.used,
+        };
+        given
+    }
+
+    /// A table with a chain of about as many names as are followed, seeded in any order, and the paths around its end.
+    fn ladder(&mut self) -> Result<(), Finding> {
+        let names = self.random.between(LADDER[0], LADDER[1]);
+        let spare = self.random.below(3) * SLOT_WORDS;
+        self.pair = Pair::empty(self.world.names(), SLOT_WORDS * names + spare);
+        let top = self.world.key(self.random);
+        let sequence = self.random.number() % 65536;
+        let step = |at: usize| [1000 + at as u64, sequence];
+        let mut order: Vec<usize> = (0..names).collect();
+        for at in 1..names {
+            order.swap(at, self.random.below(at + 1));
+        }
+        let mut entries = Vec::new();
+        for at in order {
+            let parent = if at == 0 { top } else { step(at - 1) };
+            let length = self.world.image.len().min(self.random.below(5));
+            let offset = self.random.below(self.world.image.len() - length + 1);
+            entries.extend([0, step(at)[0], sequence, offset as u64, length as u64, parent[0], parent[1], 1, 1]);
+        }
+        let added = Added::Listed {
+            entries: &entries,
+            rust: None,
+        };
+        self.pair.store(self.pair.given(), added, STORED)?;
+        for at in [names - 1, self.random.between(245, names - 1)] {
+            let question = self.pair.ask(self.pair.given(), step(at))?;
+            let full = full(&question);
+            self.pair.resolve(&question, full)?;
+            self.pair.chain(&question, Room { out: CHAIN_WORDS, ..full })?;
+        }
+        Ok(())
+    }
+}
+
+/// Just enough for a path; some where it is refused.
+pub fn full(question: &Question) -> Room {
+    let (chain, text) = match &question.told {
+        Ok(told) => (told.chain.words().len(), told.text.len()),
+        Err(_) => (6, 20),
+    };
+    Room { chain, text, out: TOLD }
+}
