@@ -104,11 +104,11 @@ impl World {
     /// A key and its parent.
     fn keys(&self, random: &mut Random) -> [Key; 2] {
         let at = random.below(self.keys.len());
-        let parent = match random.below(8) {
-            0 => [5, random.pick(&SEQUENCES)],
-            1 => self.key(random),
+        let parent = match random.below(32) {
+            0..=3 => [5, random.pick(&SEQUENCES)],
+            4 => self.key(random),
             _ if self.cyclic => random.pick(&self.keys),
-            _ if at == 0 => [5, 5],
+            _ if at == 0 => random.pick(&[[5, 5], [77, 7]]),
             _ => self.keys[random.below(at)],
         };
         [self.keys[at], parent]
@@ -166,11 +166,16 @@ impl World {
 
 /// A few keys of a few entries, most of them with several sequences.
 fn keys(random: &mut Random, sequences: &[u64]) -> Vec<Key> {
-    let entries: Vec<u64> = (0..random.between(1, 6)).map(|_| random.pick(&ENTRIES)).collect();
+    let entries: Vec<u64> = (0..random.between(1, 8)).map(|_| random.pick(&ENTRIES)).collect();
     let sequences: Vec<u64> = (0..random.between(1, 3)).map(|_| random.pick(sequences)).collect();
-    (0..random.between(1, KEYS))
-        .map(|_| [random.pick(&entries), random.pick(&sequences)])
-        .collect()
+    let mut keys: Vec<Key> = Vec::new();
+    for _ in 0..random.between(1, KEYS) {
+        let key = [random.pick(&entries), random.pick(&sequences)];
+        if !keys.contains(&key) {
+            keys.push(key);
+        }
+    }
+    keys
 }
 
 /// The units of names, and now and then an odd byte; seldom none.

@@ -184,7 +184,13 @@ pub fn table_insert(names: Sources, slots: &mut [u64], used: usize, slot: &[u64;
 }
 
 /// The same where the key is new; a known entry stays.
-pub fn table_insert_if_absent(names: Sources, slots: &mut [u64], used: usize, slot: &[u64; SLOT_WORDS], out: &mut [u64]) -> u32 {
+pub fn table_insert_if_absent(
+    names: Sources,
+    slots: &mut [u64],
+    used: usize,
+    slot: &[u64; SLOT_WORDS],
+    out: &mut [u64],
+) -> u32 {
     let [entry, sequence, parent_entry, parent_sequence, source, offset, length] = *slot;
     // SAFETY: as above.
     unsafe {
@@ -262,13 +268,7 @@ pub fn path_resolve(
 }
 
 /// The same without the text; `out` takes the first `CHAIN_WORDS`.
-pub fn path_chain(
-    names: Sources,
-    slots: Slots,
-    [entry, sequence]: Key,
-    chain: &mut [u64],
-    out: &mut [u64],
-) -> u32 {
+pub fn path_chain(names: Sources, slots: Slots, [entry, sequence]: Key, chain: &mut [u64], out: &mut [u64]) -> u32 {
     // SAFETY: as above.
     unsafe {
         declared::path_chain(

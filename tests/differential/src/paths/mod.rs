@@ -2,17 +2,20 @@
 //! calls on a lent table. The subject is `paths`.
 
 mod cases;
+mod edges;
 mod library;
 mod model;
 mod pair;
 mod places;
 mod programs;
+mod refusals;
 
-use crate::difference::{Case, Outcome};
+use crate::difference::{Case, Difference, Finding, Outcome};
 use crate::library::DOMAIN;
 use crate::random::Random;
 use crate::Run;
 use cases::World;
+use edges::Letters;
 use programs::Made;
 
 const SUBJECT: &str = "paths";
@@ -26,25 +29,55 @@ const CASES_A_PROGRAM: u64 = 10;
 pub fn run(run: &Run) -> Outcome {
     // The pages of these zeros are not in memory.
     let above = vec![0; DOMAIN + 1];
+    let exhaustive = exhaustive(&above)?;
+    println!("{SUBJECT}: {exhaustive} exhaustive cases, no difference");
     let programs = run.cases.div_ceil(CASES_A_PROGRAM);
     let mut made = Made::default();
     for number in 0..programs {
         let mut random = Random::of_case(run.seed, STREAM, number);
         let world = World::new(&mut random);
         programs::run(&mut random, &world, &above, &mut made).map_err(|finding| {
+            let bytes = [&world.journal[..], &world.image].concat();
             let case = Case {
-                subject: SUBJECT,
                 seed: Some(run.seed),
-                number,
-                kind: world.kind,
-                bytes: &[&world.journal[..], &world.image].concat(),
+                bytes: &bytes,
+                ..exhaustive_case(number, world.kind)
             };
             case.differs(finding)
         })?;
     }
-    println!(
-        "{SUBJECT}: {programs} cases, {} additions, {} refused, {} paths, seed {}, no difference",
-        made.stored, made.refused, made.paths, run.seed
-    );
+    println!("{SUBJECT}: {programs} cases, {made}, seed {}, no difference", run.seed);
     Ok(())
+}
+
+fn exhaustive_case(number: u64, kind: &'static str) -> Case<'static> {
+    Case {
+        subject: SUBJECT,
+        seed: None,
+        number,
+        kind,
+        bytes: &[],
+    }
+}
+
+/// The exhaustive tables and paths; how many they are. `above` is a slice above the domain.
+fn exhaustive(above: &[u8]) -> Result<u64, Difference> {
+    let letters = &Letters::new();
+    let mut number = 0;
+    let mut group = |kind, cases: Result<u64, Finding>| {
+        number += cases.map_err(|finding| exhaustive_case(number, kind).differs(finding))?;
+        Ok(())
+    };
+    group("P9", edges::p9(letters))?;
+    group("ladders", edges::ladders(letters))?;
+    group("cycles", edges::cycles(letters))?;
+    group("roots", edges::roots(letters))?;
+    group("full tables", edges::full_tables(letters))?;
+    group("equal keys", edges::equal_keys(letters))?;
+    group("digits", edges::digits(letters))?;
+    group("places", refusals::places())?;
+    group("refused additions", refusals::additions(letters, above))?;
+    group("refused paths", refusals::paths(letters, above))?;
+    group("domain", refusals::domain(above))?;
+    Ok(number)
 }

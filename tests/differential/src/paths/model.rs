@@ -94,7 +94,9 @@ impl Table {
     /// The lowest used slot with this key.
     fn find(&self, used: usize, [entry, sequence]: Key) -> Option<usize> {
         let slots = self.words.chunks_exact(SLOT_WORDS).take(used);
-        slots.into_iter().position(|slot| slot[0] == entry && slot[1] == sequence)
+        slots
+            .into_iter()
+            .position(|slot| slot[0] == entry && slot[1] == sequence)
     }
 
     /// Adds slots, in place of known ones or not; gives how many slots are used then, or the refusal.

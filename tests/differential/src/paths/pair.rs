@@ -29,9 +29,15 @@ pub struct Given<'a> {
 /// What a call adds to the table.
 #[derive(Debug, Clone, Copy)]
 pub enum Added<'a> {
-    One { slot: Slot, replace: bool },
+    One {
+        slot: Slot,
+        replace: bool,
+    },
     /// A list of carved entries, with those that the Rust's carver gave, where it is carved.
-    Listed { entries: &'a [u64], rust: Option<&'a [CarvedMftEntry]> },
+    Listed {
+        entries: &'a [u64],
+        rust: Option<&'a [CarvedMftEntry]>,
+    },
 }
 
 /// How much a call is lent for the chain, the text and the answer.
@@ -165,9 +171,7 @@ impl<'a> Pair<'a> {
         self.used = used;
         match (added, &mut self.rust) {
             (Added::Listed { rust: Some(carved), .. }, Some(rust)) => rust.seed_from_carved(carved),
-            _ => slots
-                .iter()
-                .for_each(|slot| self.tell_rust(slot, replace)),
+            _ => slots.iter().for_each(|slot| self.tell_rust(slot, replace)),
         }
         self.compare_length(added)?;
         Ok(true)

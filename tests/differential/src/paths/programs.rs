@@ -2,13 +2,14 @@
 
 use super::cases::World;
 use super::library::{Key, Sources, CHAIN_WORDS, SLOT_WORDS};
-use super::model::{key, parent};
+use super::model::{key, parent, End};
 use super::pair::{Added, Given, Pair, Question, Room, STORED, TOLD};
 use super::places;
 use crate::difference::Finding;
 use crate::lent::untouched;
 use crate::names::comparison::{self as decoding, OUT};
 use crate::random::Random;
+use std::fmt;
 
 /// The most calls of a program.
 const CALLS: usize = 64;
@@ -16,15 +17,48 @@ const CALLS: usize = 64;
 /// One in so many name places handed in lies outside its slice.
 const OUTSIDE: usize = 32;
 
+/// The words lent for the answer of an addition: mostly as many as it has.
+const OUTS: [usize; 16] = [
+    1,
+    1,
+    1,
+    1,
+    1,
+    1,
+    1,
+    1,
+    1,
+    1,
+    1,
+    1,
+    1,
+    STORED + 1,
+    STORED + 3,
+    STORED - 1,
+];
+
 /// The names of a ladder: about as many as are followed.
 const LADDER: [usize; 2] = [250, 262];
 
-/// How many calls of each kind the programs made.
+/// How many calls the programs made: additions accepted and refused, and paths by their end or refused.
 #[derive(Default)]
 pub struct Made {
-    pub stored: u64,
-    pub refused: u64,
-    pub paths: u64,
+    stored: u64,
+    stored_refused: u64,
+    root: u64,
+    unknown: u64,
+    unresolved: u64,
+    paths_refused: u64,
+}
+
+impl fmt::Display for Made {
+    fn fmt(&self, f: &mut fmt::Formatter<'_>) -> fmt::Result {
+        write!(
+            f,
+            "{} additions and {} refused, paths: {} to the root, {} unknown, {} unresolved, {} refused",
+            self.stored, self.stored_refused, self.root, self.unknown, self.unresolved, self.paths_refused
+        )
+    }
 }
 
 /// A program while it runs.
@@ -110,10 +144,10 @@ impl<'a> Program<'a> {
 
     fn store(&mut self, added: Added) -> Result<(), Finding> {
         let given = self.given();
-        let out = self.random.pick(&[STORED, STORED, STORED, STORED, STORED, STORED, STORED + 1, STORED + 3, 0]);
+        let out = self.random.pick(&OUTS);
         match self.pair.store(given, added, out)? {
             true => self.made.stored += 1,
-            false => self.made.refused += 1,
+            false => self.made.stored_refused += 1,
         }
         Ok(())
     }
@@ -133,7 +167,13 @@ impl<'a> Program<'a> {
         self.pair.resolve(&question, any)?;
         let any = self.any_room(full, CHAIN_WORDS);
         self.pair.chain(&question, any)?;
-        self.made.paths += 1;
+        let made = &mut *self.made;
+        *match question.told.map(|told| told.chain.end) {
+            Ok(End::Root) => &mut made.root,
+            Ok(End::Unknown(_)) => &mut made.unknown,
+            Ok(End::Unresolved(_)) => &mut made.unresolved,
+            Err(_) => &mut made.paths_refused,
+        } += 1;
         Ok(())
     }
 
@@ -159,7 +199,11 @@ impl<'a> Program<'a> {
         let length = places::length(names, place);
         let room = |text, out| decoding::Room { text, out };
         let any = room(length + self.random.below(5), self.random.pick(&[OUT, OUT, OUT + 2, 0]));
-        places::compare(names, place, &[room(length.saturating_sub(1), OUT), room(length, OUT), any])
+        places::compare(
+            names,
+            place,
+            &[room(length.saturating_sub(1), OUT), room(length, OUT), any],
+        )
     }
 
     /// The key of a slot, its parent's, or any.
@@ -213,7 +257,17 @@ impl<'a> Program<'a> {
             let parent = if at == 0 { top } else { step(at - 1) };
             let length = self.world.image.len().min(self.random.below(5));
             let offset = self.random.below(self.world.image.len() - length + 1);
-            entries.extend([0, step(at)[0], sequence, offset as u64, length as u64, parent[0], parent[1], 1, 1]);
+            entries.extend([
+                0,
+                step(at)[0],
+                sequence,
+                offset as u64,
+                length as u64,
+                parent[0],
+                parent[1],
+                1,
+                1,
+            ]);
         }
         let added = Added::Listed {
             entries: &entries,
@@ -224,7 +278,13 @@ impl<'a> Program<'a> {
             let question = self.pair.ask(self.pair.given(), step(at))?;
             let full = full(&question);
             self.pair.resolve(&question, full)?;
-            self.pair.chain(&question, Room { out: CHAIN_WORDS, ..full })?;
+            self.pair.chain(
+                &question,
+                Room {
+                    out: CHAIN_WORDS,
+                    ..full
+                },
+            )?;
         }
         Ok(())
     }
