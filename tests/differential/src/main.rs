@@ -86,7 +86,8 @@ fn main() -> ExitCode {
 fn record(crates: &Path) -> io::Result<()> {
     records::sample::write(&crates.join("replay_record"))?;
     journals::sample::write(&crates.join("replay_readers"))?;
-    image::sample::write(&crates.join("replay_image"))
+    image::sample::write(&crates.join("replay_image"))?;
+    paths::sample::write(&crates.join("replay_path"))
 }
 
 /// Every subject in turn, or the one that is asked for, up to the first difference.

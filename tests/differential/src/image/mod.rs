@@ -7,7 +7,7 @@ pub mod file;
 mod known;
 pub mod layout;
 pub mod sample;
-mod walk;
+pub mod walk;
 
 use crate::difference::{Case, Difference, Finding, Outcome};
 use crate::random::Random;

@@ -322,6 +322,30 @@ pub fn equal_keys(letters: &Letters) -> Result<u64, Finding> {
     Ok(cases)
 }
 
+/// Keys that are equal in their low bits: one stored, another asked for and then stored beside it.
+pub fn like_keys(letters: &Letters) -> Result<u64, Finding> {
+    let entries = [42, 42 + (1 << 16), 42 + (1 << 32), 42 + (1 << 48), 42 + (1 << 63)];
+    let sequences = [3, 3 + (1 << 8), 3 + (1 << 16), 3 + (1 << 32), 3 + (1 << 63)];
+    let keys: Vec<Key> = entries
+        .iter()
+        .flat_map(|&entry| sequences.map(|sequence| [entry, sequence]))
+        .collect();
+    let mut cases = 0;
+    for &stored in &keys {
+        for &key in &keys {
+            let mut pair = Pair::empty(letters.names(), 2 * SLOT_WORDS);
+            insert(&mut pair, under([5, 5], stored, letter(0)))?;
+            for replace in [false, true] {
+                some_rooms(&pair, &pair.ask(pair.given(), key)?)?;
+                let slot = under([77, 7], key, letter(1));
+                pair.store(pair.given(), Added::One { slot, replace }, STORED)?;
+            }
+            cases += 1;
+        }
+    }
+    Ok(cases)
+}
+
 /// Ends with keys of every number of digits, unknown and unresolved. The Rust has those of 16-bit sequences.
 pub fn digits(letters: &Letters) -> Result<u64, Finding> {
     let numbers: Vec<u64> = TENS

@@ -9,6 +9,7 @@ mod pair;
 mod places;
 mod programs;
 mod refusals;
+pub mod sample;
 
 use crate::difference::{Case, Difference, Finding, Outcome};
 use crate::library::DOMAIN;
@@ -74,6 +75,7 @@ fn exhaustive(above: &[u8]) -> Result<u64, Difference> {
     group("roots", edges::roots(letters))?;
     group("full tables", edges::full_tables(letters))?;
     group("equal keys", edges::equal_keys(letters))?;
+    group("like keys", edges::like_keys(letters))?;
     group("digits", edges::digits(letters))?;
     group("places", refusals::places())?;
     group("refused additions", refusals::additions(letters, above))?;

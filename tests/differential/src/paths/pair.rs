@@ -115,28 +115,13 @@ impl<'a> Pair<'a> {
         }
     }
 
-    /// The same addition to the Rust's table, as far as its sequences go.
+    /// The same addition to the Rust's table, which is given up where its sequences are too short.
     fn tell_rust(&mut self, slot: &Slot, replace: bool) {
-        let (Some(key), Some(parent)) = (rust_key(key(slot)), rust_key(parent(slot))) else {
-            self.rust = None;
-            return;
-        };
-        let Some(rust) = &mut self.rust else { return };
-        // A place may lie outside, since calls are handed other slices too; no path is told while it does.
-        let name = bytes_at(self.names, place(slot)).map(text).unwrap_or_default();
-        match replace {
-            true => rust.insert(key, EntryInfo { name, parent }),
-            false => rust.seed_from_carved(&[CarvedMftEntry {
-                offset: 0,
-                entry_number: key.entry,
-                sequence_number: key.sequence,
-                filename: name,
-                parent_entry: parent.entry,
-                parent_sequence: parent.sequence,
-                is_directory: false,
-                is_in_use: false,
-            }]),
-        }
+        let names = self.names;
+        self.rust = self
+            .rust
+            .take()
+            .and_then(|mut rust| add(&mut rust, names, slot, replace).then_some(rust));
     }
 
     /// Adds to all three tables, with so many words lent for the answer. Gives whether it was accepted.
@@ -224,8 +209,8 @@ impl<'a> Pair<'a> {
                 return Err(Finding {
                     call: format!("resolve_path of {key:?}"),
                     what: "the scope's path is not the Rust's".to_string(),
-                    rust: path,
-                    ours: format!("the scope: {}, {}", told.text, shown(&self.model, self.used)),
+                    rust: format!("{path:?}"),
+                    ours: format!("the scope: {:?}, {}", told.text, shown(&self.model, self.used)),
                 });
             }
         }
@@ -371,8 +356,31 @@ fn word_against(words: &[u64], front: &[u64]) -> Option<(usize, u64)> {
     Some((at, expected(at)))
 }
 
+/// Adds a slot to the Rust's table, in place of a known one or not. Not done where a sequence has more than 16 bits.
+pub fn add(rust: &mut RewindEngine, names: Sources, slot: &Slot, replace: bool) -> bool {
+    let (Some(key), Some(parent)) = (rust_key(key(slot)), rust_key(parent(slot))) else {
+        return false;
+    };
+    // A place may lie outside, since calls are handed other slices too; no path is told while it does.
+    let name = bytes_at(names, place(slot)).map(text).unwrap_or_default();
+    match replace {
+        true => rust.insert(key, EntryInfo { name, parent }),
+        false => rust.seed_from_carved(&[CarvedMftEntry {
+            offset: 0,
+            entry_number: key.entry,
+            sequence_number: key.sequence,
+            filename: name,
+            parent_entry: parent.entry,
+            parent_sequence: parent.sequence,
+            is_directory: false,
+            is_in_use: false,
+        }]),
+    }
+    true
+}
+
 /// The Rust's key, whose sequence has 16 bits.
-fn rust_key([entry, sequence]: Key) -> Option<EntryKey> {
+pub fn rust_key([entry, sequence]: Key) -> Option<EntryKey> {
     Some(EntryKey::new(entry, sequence.try_into().ok()?))
 }
 
