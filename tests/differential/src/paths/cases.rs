@@ -49,7 +49,8 @@ pub struct World {
     pub image: Vec<u8>,
     pub carved: Carved,
     pub keys: Vec<Key>,
-    /// Any key may be the parent of any other; else a key's parent is one before it, so that most chains end.
+    /// Any key may be the parent of any other; else a key's parent is mostly one before it, so that
+    /// chains end.
     cyclic: bool,
 }
 
@@ -109,7 +110,7 @@ impl World {
             4 => self.key(random),
             _ if self.cyclic => random.pick(&self.keys),
             _ if at == 0 => random.pick(&[[5, 5], [77, 7]]),
-            _ => self.keys[random.below(at)],
+            _ => self.keys[at - random.between(1, at.min(3))],
         };
         [self.keys[at], parent]
     }

@@ -95,10 +95,10 @@ pub fn run(random: &mut Random, world: &World, above: &[u8], made: &mut Made) ->
 
 /// A table that is empty, or has slots of any keys, equal ones too; some of its words may be no whole slot.
 fn table<'a>(random: &mut Random, world: &'a World) -> Pair<'a> {
-    let slots = match random.below(4) {
+    let slots = match random.below(8) {
         0 => random.below(4),
-        1 => CALLS,
-        _ => random.below(world.keys.len() + 4),
+        1 | 2 => CALLS,
+        _ => (world.keys.len() + random.below(6)).saturating_sub(2),
     };
     let words = SLOT_WORDS * slots + random.pick(&[0, 0, 1, 6]);
     if !random.one_in(4) {
