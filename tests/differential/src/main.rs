@@ -37,7 +37,7 @@ pub struct Run {
 /// What is compared, by name.
 const SUBJECTS: [(&str, fn(&Run) -> Outcome); 8] = [
     ("parsers", records::parsers::run),
-    ("listed", records::listed::run),
+    ("listed records", records::listed::run),
     ("journal", journals::scan::run),
     ("carver", journals::carver::run),
     ("window", window::run),

@@ -294,7 +294,7 @@ impl<'a> Pair<'a> {
             ),
             what,
             rust: format!("the scope: {told:?}, {}", shown(&self.model, self.used)),
-            ours: format!("{number}, {}", lists.shown()),
+            ours: lists.shown(number),
         })
     }
 
@@ -338,9 +338,12 @@ impl Lists {
         Some(format!("byte {at} of the text is {ours:02x}, not {expected:02x}"))
     }
 
-    fn shown(&self) -> String {
+    fn shown(&self, number: u32) -> String {
         let (chain, text) = (beginning(&self.chain), hex(beginning(&self.text)));
-        format!("{}, chain {chain:?}, text {text}", named(&PATH_FIELDS, &self.out))
+        match number {
+            ACCEPTED => format!("{}, chain {chain:?}, text {text}", named(&PATH_FIELDS, &self.out)),
+            refusal => format!("refusal {refusal}"),
+        }
     }
 }
 
