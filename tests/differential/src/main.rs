@@ -34,8 +34,11 @@ pub struct Run {
     pub only: Option<String>,
 }
 
-/// What is compared, by name.
-const SUBJECTS: [(&str, fn(&Run) -> Outcome); 8] = [
+/// A subject: its name, and what compares it.
+type Subject = (&'static str, fn(&Run) -> Outcome);
+
+/// All that is compared.
+const SUBJECTS: [Subject; 8] = [
     ("parsers", records::parsers::run),
     ("listed records", records::listed::run),
     ("journal", journals::scan::run),

@@ -127,7 +127,7 @@ impl World {
         let mut list = Vec::new();
         for _ in 0..random.below(7) {
             let [key, parent] = self.keys(random);
-            let [_, offset, length] = in_slice(random, 1, self.image.len(), 64);
+            let [_, offset, length] = self.image_place(random, 64);
             let flags = [random.number() % 3, random.number() % 3];
             list.extend([random.number(), key[0], key[1], offset, length]);
             list.extend([parent[0], parent[1], flags[0], flags[1]]);
@@ -136,6 +136,11 @@ impl World {
             list.push(random.number());
         }
         list
+    }
+
+    /// A name's place in the image, inside but for one in `outside` times.
+    pub fn image_place(&self, random: &mut Random, outside: usize) -> Place {
+        in_slice(random, 1, self.image.len(), outside)
     }
 
     /// A name's place in journal or image, inside but for one in `outside` times.
@@ -157,7 +162,7 @@ impl World {
         entry.put(FLAGS, 2, random.number() % 4);
         entry.put(NUMBER, 4, key[0]);
         entry.name(&Name {
-            parent: parent[0] % (1 << 48) | parent[1] << 48,
+            parent: (parent[0] % (1 << 48)) | (parent[1] << 48),
             namespace: random.pick(&[1, 1, 3, 0, 2]),
             units: (0..random.between(1, LONGEST)).map(|_| unit(random)).collect(),
         });

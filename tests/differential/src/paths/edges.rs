@@ -1,8 +1,9 @@
 //! The exhaustive tables and paths; they depend on no seed.
 
 use super::library::{Key, Place, Sources, CHAIN_WORDS, SLOT_WORDS};
+use super::lists::Room;
 use super::model::Slot;
-use super::pair::{Added, Given, Pair, Question, Room, STORED, TOLD};
+use super::pair::{Added, Given, Pair, Question, STORED, TOLD};
 use super::programs::full;
 use crate::difference::Finding;
 use crate::lent::untouched;
@@ -121,33 +122,19 @@ pub fn every_room(pair: &Pair, given: Given, key: Key) -> Result<(), Finding> {
     Ok(())
 }
 
-/// The path of a key with a text a byte short, then with enough, and with a chain that has no room.
+/// The path of a key with a text a byte short, then with enough, and with chains that are short and long.
 pub fn some_rooms(pair: &Pair, question: &Question) -> Result<(), Finding> {
     let full = full(question);
-    let short = Room {
-        text: full.text - 1,
-        ..full
-    };
-    pair.resolve(question, short)?;
+    let text = full.text - 1;
+    pair.resolve(question, Room { text, ..full })?;
     pair.resolve(question, full)?;
+    let out = CHAIN_WORDS;
+    pair.chain(question, Room { out, ..full })?;
     for chain in [full.chain.saturating_sub(1), LONGEST_CHAIN] {
         pair.resolve(question, Room { chain, ..full })?;
-        pair.chain(
-            question,
-            Room {
-                chain,
-                out: CHAIN_WORDS,
-                ..full
-            },
-        )?;
+        pair.chain(question, Room { chain, out, ..full })?;
     }
-    pair.chain(
-        question,
-        Room {
-            out: CHAIN_WORDS,
-            ..full
-        },
-    )
+    Ok(())
 }
 
 /// Holds a path to the text that is known, too.
@@ -189,12 +176,7 @@ pub fn ladders(letters: &Letters) -> Result<u64, Finding> {
             for slots in [&slots, &reversed] {
                 let pair = table(letters.names(), slots)?;
                 let mut seeded = Pair::empty(letters.names(), SLOT_WORDS * names);
-                let (entries, given) = (listed(slots), seeded.given());
-                let added = Added::Listed {
-                    entries: &entries,
-                    rust: None,
-                };
-                seeded.store(given, added, STORED)?;
+                seeded.store(seeded.given(), Added::list(&listed(slots)), STORED)?;
                 for at in names.saturating_sub(4)..names + 1 {
                     for pair in [&pair, &seeded] {
                         some_rooms(pair, &pair.ask(pair.given(), step(at))?)?;
@@ -241,51 +223,55 @@ pub fn roots(letters: &Letters) -> Result<u64, Finding> {
     Ok(cases)
 }
 
-/// Tables of no to three slots and no to six words more, with every number of slots used: known and new keys, and
-/// lists of known and new keys, each once or twice, up to one more than there is room for.
+/// Tables of no to three slots and no to six words more, with every number of slots used.
+fn shapes() -> Vec<[usize; 3]> {
+    let with = |slots| (0..7).flat_map(move |tail| (0..=slots).map(move |used| [slots, tail, used]));
+    (0..4).flat_map(with).collect()
+}
+
+/// Such a table, and the slots that are put into it.
+fn filled(letters: &Letters, [slots, tail, used]: [usize; 3]) -> Result<Pair<'_>, Finding> {
+    let mut pair = Pair::empty(letters.names(), SLOT_WORDS * slots + tail);
+    (0..used).try_for_each(|at| insert(&mut pair, named(at, at)))?;
+    Ok(pair)
+}
+
+fn named(at: usize, name: usize) -> Slot {
+    under([5, 5], step(at), letter(name))
+}
+
+/// Known and new keys, each stored twice, in tables up to full.
 pub fn full_tables(letters: &Letters) -> Result<u64, Finding> {
-    let slot = |at: usize, name: usize| under([5, 5], step(at), letter(name));
     let mut cases = 0;
-    for (slots, tail, used) in
-        (0..4).flat_map(|slots| (0..7).flat_map(move |tail| (0..=slots).map(move |used| (slots, tail, used))))
-    {
-        let words = SLOT_WORDS * slots + tail;
-        let start = || -> Result<Pair, Finding> {
-            let mut pair = Pair::empty(letters.names(), words);
-            (0..used)
-                .try_for_each(|at| insert(&mut pair, slot(at, at)))
-                .map(|()| pair)
-        };
-        for at in 0..slots + 2 {
+    for shape in shapes() {
+        for at in 0..shape[0] + 2 {
             for replace in [true, false] {
-                let mut pair = start()?;
-                let added = Added::One {
-                    slot: slot(at, 9),
-                    replace,
-                };
-                for _ in 0..2 {
-                    pair.store(pair.given(), added, STORED)?;
+                let mut pair = filled(letters, shape)?;
+                for name in [9, 10] {
+                    let slot = named(at, name);
+                    pair.store(pair.given(), Added::One { slot, replace }, STORED)?;
                 }
                 pair.compare_keys()?;
                 cases += 1;
             }
         }
-        for (first, new) in (0..=used).flat_map(|first| (used..slots + 2).map(move |new| (first, new))) {
-            for twice in [false, true] {
-                let mut added: Vec<Slot> = (first..new).map(|at| slot(at, 9)).collect();
-                if twice {
-                    added.extend((first..new).map(|at| slot(at, 10)));
-                }
-                let entries = listed(&added);
-                let mut pair = start()?;
-                pair.store(
-                    pair.given(),
-                    Added::Listed {
-                        entries: &entries,
-                        rust: None,
-                    },
-                    STORED,
-                )?;
+    }
+    Ok(cases)
+}
+
+/// Lists of known and new keys, each once or twice, up to one more than there is room for.
+pub fn full_lists(letters: &Letters) -> Result<u64, Finding> {
+    let mut cases = 0;
+    for shape in shapes() {
+        let [slots, _, used] = shape;
+        for (first, end) in (0..=used).flat_map(|first| (used..slots + 2).map(move |end| (first, end))) {
+            for names in [&[9][..], &[9, 10]] {
+                let keys = names
+                    .iter()
+                    .flat_map(|&name| (first..end).map(move |at| named(at, name)));
+                let entries = listed(&keys.collect::<Vec<Slot>>());
+                let mut pair = filled(letters, shape)?;
+                pair.store(pair.given(), Added::list(&entries), STORED)?;
                 pair.compare_keys()?;
                 cases += 1;
             }

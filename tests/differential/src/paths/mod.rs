@@ -4,6 +4,7 @@
 mod cases;
 mod edges;
 mod library;
+mod lists;
 mod model;
 mod pair;
 mod places;
@@ -74,6 +75,7 @@ fn exhaustive(above: &[u8]) -> Result<u64, Difference> {
     group("cycles", edges::cycles(letters))?;
     group("roots", edges::roots(letters))?;
     group("full tables", edges::full_tables(letters))?;
+    group("full tables, lists", edges::full_lists(letters))?;
     group("equal keys", edges::equal_keys(letters))?;
     group("like keys", edges::like_keys(letters))?;
     group("digits", edges::digits(letters))?;

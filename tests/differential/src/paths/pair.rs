@@ -5,13 +5,13 @@ use super::library::{
     path_chain, path_resolve, table_insert, table_insert_if_absent, table_seed, Key, Slots, Sources, CHAIN_WORDS,
     PATH_FIELDS, SLOT_FIELDS, SLOT_WORDS, TABLE_FIELDS,
 };
+use super::lists::{word_against, Lists, Room, Written};
 use super::model::{self, bytes_at, carved, key, parent, place, Chain, Slot, Table};
 use crate::carve::CarvedMftEntry;
 use crate::difference::Finding;
 use crate::lent::{beginning, untouched, BEHIND};
 use crate::library::{ACCEPTED, NO_ROOM, TEXT_TOO_SMALL};
-use crate::names::comparison::{hex, text, untouched_byte};
-use crate::records::answers::named;
+use crate::names::comparison::text;
 use crate::rewind::{EntryInfo, EntryKey, RewindEngine};
 use std::collections::HashSet;
 
@@ -40,12 +40,11 @@ pub enum Added<'a> {
     },
 }
 
-/// How much a call is lent for the chain, the text and the answer.
-#[derive(Debug, Clone, Copy)]
-pub struct Room {
-    pub chain: usize,
-    pub text: usize,
-    pub out: usize,
+impl<'a> Added<'a> {
+    /// A list made by hand.
+    pub fn list(entries: &'a [u64]) -> Self {
+        Self::Listed { entries, rust: None }
+    }
 }
 
 /// A path as the scope tells it.
@@ -234,8 +233,11 @@ impl<'a> Pair<'a> {
             Ok(told) if told.text.len() > room.text => Err(TEXT_TOO_SMALL),
             Ok(told) => {
                 let [names, end, entry, sequence] = told.chain.answer();
-                let out = vec![names, end, entry, sequence, told.text.len() as u64];
-                Ok((told.chain.words(), told.text.as_bytes(), out))
+                Ok(Written {
+                    chain: told.chain.words(),
+                    text: told.text.as_bytes(),
+                    out: vec![names, end, entry, sequence, told.text.len() as u64],
+                })
             }
         };
         self.compare("path_resolve", question, room, number, &lists, expected)
@@ -254,7 +256,11 @@ impl<'a> Pair<'a> {
         let expected = match &question.told {
             _ if room.out < CHAIN_WORDS => Err(NO_ROOM),
             Err(refusal) => Err(*refusal),
-            Ok(told) => Ok((told.chain.words(), &[][..], told.chain.answer().to_vec())),
+            Ok(told) => Ok(Written {
+                chain: told.chain.words(),
+                text: &[],
+                out: told.chain.answer().to_vec(),
+            }),
         };
         self.compare("path_chain", question, room, number, &lists, expected)
     }
@@ -266,8 +272,8 @@ impl<'a> Pair<'a> {
         }
     }
 
-    /// The lent lists after a call against the words of the chain, which are written where there is room for all, the
-    /// text and the answer; or against a refusal, which writes nothing.
+    /// The lent lists after a call against what it writes, the chain where there is room for all of it; or against a
+    /// refusal, which writes nothing.
     fn compare(
         &self,
         call: &str,
@@ -275,13 +281,15 @@ impl<'a> Pair<'a> {
         room: Room,
         number: u32,
         lists: &Lists,
-        expected: Result<(&[u64], &[u8], Vec<u64>), u32>,
+        expected: Result<Written, u32>,
     ) -> Result<(), Finding> {
         let refusal = expected.as_ref().err().copied().unwrap_or(ACCEPTED);
-        let (chain, text, out) = expected.unwrap_or_default();
-        let chain = if chain.len() <= room.chain { chain } else { &[] };
+        let mut written = expected.unwrap_or_default();
+        if written.chain.len() > room.chain {
+            written.chain = &[];
+        }
         let what = against(number, refusal)
-            .or_else(|| lists.against(chain, text, &out))
+            .or_else(|| lists.against(&written))
             .or_else(|| self.slots_against());
         let Some(what) = what else { return Ok(()) };
         let Question { given, key, told } = question;
@@ -307,56 +315,9 @@ impl<'a> Pair<'a> {
     }
 }
 
-/// What is lent to a path, all the words and bytes, those behind too.
-struct Lists {
-    chain: Vec<u64>,
-    text: Vec<u8>,
-    out: Vec<u64>,
-}
-
-impl Lists {
-    fn of(room: Room) -> Self {
-        Self {
-            chain: (0..room.chain + BEHIND).map(untouched).collect(),
-            text: (0..room.text + BEHIND).map(untouched_byte).collect(),
-            out: (0..room.out + BEHIND).map(untouched).collect(),
-        }
-    }
-
-    /// The first word or byte that is not that of these, in front, or behind them not untouched.
-    fn against(&self, chain: &[u64], text: &[u8], out: &[u64]) -> Option<String> {
-        if let Some((at, word)) = word_against(&self.out, out) {
-            let field = PATH_FIELDS.get(at).unwrap_or(&"a word behind the answer");
-            return Some(format!("{field} is {}, not {word}", self.out[at]));
-        }
-        if let Some((at, word)) = word_against(&self.chain, chain) {
-            return Some(format!("word {at} of the chain is {}, not {word}", self.chain[at]));
-        }
-        let expected = |at: usize| text.get(at).copied().unwrap_or(untouched_byte(at));
-        let at = (0..self.text.len()).find(|&at| self.text[at] != expected(at))?;
-        let (ours, expected) = (self.text[at], expected(at));
-        Some(format!("byte {at} of the text is {ours:02x}, not {expected:02x}"))
-    }
-
-    fn shown(&self, number: u32) -> String {
-        let (chain, text) = (beginning(&self.chain), hex(beginning(&self.text)));
-        match number {
-            ACCEPTED => format!("{}, chain {chain:?}, text {text}", named(&PATH_FIELDS, &self.out)),
-            refusal => format!("refusal {refusal}"),
-        }
-    }
-}
-
 /// The number is not the one expected.
 fn against(number: u32, expected: u32) -> Option<String> {
     (number != expected).then(|| format!("the answer is {number}, not {expected}"))
-}
-
-/// The first word that is not that of `front`, or behind these not untouched, with what it should be.
-fn word_against(words: &[u64], front: &[u64]) -> Option<(usize, u64)> {
-    let expected = |at: usize| front.get(at).copied().unwrap_or(untouched(at));
-    let at = (0..words.len()).find(|&at| words[at] != expected(at))?;
-    Some((at, expected(at)))
 }
 
 /// Adds a slot to the Rust's table, in place of a known one or not. Not done where a sequence has more than 16 bits.

@@ -1,9 +1,11 @@
 //! The random programs: up to 64 calls on one table, refused ones among them, and then every key looked up.
 
 use super::cases::World;
+use super::edges::{ladder, listed, some_rooms, step};
 use super::library::{Key, Sources, CHAIN_WORDS, SLOT_WORDS};
+use super::lists::Room;
 use super::model::{key, parent, End};
-use super::pair::{Added, Given, Pair, Question, Room, STORED, TOLD};
+use super::pair::{Added, Given, Pair, Question, STORED, TOLD};
 use super::places;
 use crate::difference::Finding;
 use crate::lent::untouched;
@@ -16,6 +18,9 @@ const CALLS: usize = 64;
 
 /// One in so many name places handed in lies outside its slice.
 const OUTSIDE: usize = 32;
+
+/// As for one in so many that it does not happen.
+pub const NEVER: usize = 1 << 40;
 
 /// The words lent for the answer of an addition: mostly as many as it has.
 const OUTS: [usize; 16] = [
@@ -127,10 +132,7 @@ impl<'a> Program<'a> {
             }
             9 | 10 => {
                 let entries = self.world.list(self.random);
-                self.store(Added::Listed {
-                    entries: &entries,
-                    rust: None,
-                })
+                self.store(Added::list(&entries))
             }
             11 if self.random.one_in(8) => {
                 let used = self.random.below(self.pair.used + 1);
@@ -242,49 +244,18 @@ impl<'a> Program<'a> {
 
     /// A table with a chain of about as many names as are followed, seeded in any order, and the paths around its end.
     fn ladder(&mut self) -> Result<(), Finding> {
-        let names = self.random.between(LADDER[0], LADDER[1]);
-        let spare = self.random.below(3) * SLOT_WORDS;
-        self.pair = Pair::empty(self.world.names(), SLOT_WORDS * names + spare);
-        let top = self.world.key(self.random);
-        let sequence = self.random.number() % 65536;
-        let step = |at: usize| [1000 + at as u64, sequence];
-        let mut order: Vec<usize> = (0..names).collect();
-        for at in 1..names {
-            order.swap(at, self.random.below(at + 1));
+        let (random, world) = (&mut *self.random, self.world);
+        let names = random.between(LADDER[0], LADDER[1]);
+        let mut slots = ladder(world.key(random), names);
+        for at in 0..names {
+            slots[at][4..].copy_from_slice(&world.image_place(random, NEVER));
+            slots.swap(at, random.below(at + 1));
         }
-        let mut entries = Vec::new();
-        for at in order {
-            let parent = if at == 0 { top } else { step(at - 1) };
-            let length = self.world.image.len().min(self.random.below(5));
-            let offset = self.random.below(self.world.image.len() - length + 1);
-            entries.extend([
-                0,
-                step(at)[0],
-                sequence,
-                offset as u64,
-                length as u64,
-                parent[0],
-                parent[1],
-                1,
-                1,
-            ]);
-        }
-        let added = Added::Listed {
-            entries: &entries,
-            rust: None,
-        };
-        self.pair.store(self.pair.given(), added, STORED)?;
-        for at in [names - 1, self.random.between(245, names - 1)] {
-            let question = self.pair.ask(self.pair.given(), step(at))?;
-            let full = full(&question);
-            self.pair.resolve(&question, full)?;
-            self.pair.chain(
-                &question,
-                Room {
-                    out: CHAIN_WORDS,
-                    ..full
-                },
-            )?;
+        self.pair = Pair::empty(world.names(), SLOT_WORDS * (names + random.below(3)));
+        self.pair
+            .store(self.pair.given(), Added::list(&listed(&slots)), STORED)?;
+        for at in [names - 1, random.between(LADDER[0] - 1, names - 1)] {
+            some_rooms(&self.pair, &self.pair.ask(self.pair.given(), step(at))?)?;
         }
         Ok(())
     }

@@ -3,8 +3,9 @@
 
 use super::edges::{every_room, insert, listed, some_rooms, step, table, under, Letters};
 use super::library::{Place, Sources, CHAIN_WORDS, SLOT_WORDS};
+use super::lists::Room;
 use super::model::Slot;
-use super::pair::{Added, Given, Pair, Room, STORED, TOLD};
+use super::pair::{Added, Given, Pair, STORED, TOLD};
 use super::places;
 use crate::difference::Finding;
 use crate::lent::untouched;
@@ -50,14 +51,7 @@ pub fn places() -> Result<u64, Finding> {
         }
         let mut pair = Pair::empty(names, 2 * SLOT_WORDS);
         let entries = listed(&[slot, under(key, other, [1, 0, 1])]);
-        pair.store(
-            pair.given(),
-            Added::Listed {
-                entries: &entries,
-                rust: None,
-            },
-            STORED,
-        )?;
+        pair.store(pair.given(), Added::list(&entries), STORED)?;
         for used in 0..=2 {
             let words = [under([5, 5], above, [0, 0, 2]), slot].concat();
             let pair = Pair::new(names, words, used);
@@ -102,10 +96,7 @@ pub fn additions(letters: &Letters, above: &[u8]) -> Result<u64, Finding> {
             for at in 0..3 {
                 let slot = under([5, 5], step(at), place);
                 let two = listed(&[under([5, 5], step(2), [1, 0, 2]), slot]);
-                let listed = Added::Listed {
-                    entries: &two,
-                    rust: None,
-                };
+                let listed = Added::list(&two);
                 let one = |replace| Added::One { slot, replace };
                 for (added, out) in [one(true), one(false), listed]
                     .into_iter()

@@ -11,6 +11,7 @@ use super::edges::{ladder, step, under, Letters};
 use super::library::{Key, Place, Sources};
 use super::model::{bytes_at, carved, name, place, Slot};
 use super::pair::{add, rust_key};
+use super::programs::NEVER;
 use crate::image::layout::ENTRY;
 use crate::image::walk;
 use crate::names::comparison::hex;
@@ -42,9 +43,6 @@ const INSERT_IF_ABSENT: u8 = 4;
 const LIST: u8 = 5;
 const PATH: u8 = 6;
 const NAME: u8 = 7;
-
-/// Places lie outside so seldom that none does: the Rust has no such refusal.
-const OUTSIDE: usize = 1 << 40;
 
 #[derive(Default)]
 struct Recording {
@@ -123,12 +121,12 @@ impl<'a> Program<'a> {
 
     fn call(&mut self, world: &World, random: &mut Random) {
         match random.below(8) {
-            0..=2 => self.one(&world.slot(random, OUTSIDE), true),
-            3 => self.one(&world.slot(random, OUTSIDE), false),
+            0..=2 => self.one(&world.slot(random, NEVER), true),
+            3 => self.one(&world.slot(random, NEVER), false),
             4 if random.one_in(2) => self.list(walk::carve(&world.image).0.as_flattened()),
             4 => self.list(&world.list(random)),
             5 | 6 => self.path(world.key(random)),
-            _ => self.name(world.place(random, OUTSIDE)),
+            _ => self.name(world.place(random, NEVER)),
         }
     }
 
