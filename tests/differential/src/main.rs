@@ -11,6 +11,7 @@ mod journals;
 mod lent;
 mod library;
 mod names;
+mod paths;
 mod random;
 mod records;
 mod usn;
@@ -24,13 +25,29 @@ use std::path::Path;
 use std::process::ExitCode;
 
 const USAGE: &str =
-    "usage: differential [--seed N] [--cases N]\n       differential --record CRATES\n       differential --image FILE";
+    "usage: differential [--seed N] [--cases N] [--only SUBJECT]\n       differential --record CRATES\n       differential --image FILE";
 
-/// The seed of a run and how many random cases each subject has.
+/// The seed of a run and how many random cases each subject has; and the subject, where one alone is compared.
 pub struct Run {
     pub seed: u64,
     pub cases: u64,
+    pub only: Option<String>,
 }
+
+/// A subject: its name, and what compares it.
+type Subject = (&'static str, fn(&Run) -> Outcome);
+
+/// All that is compared.
+const SUBJECTS: [Subject; 8] = [
+    ("parsers", records::parsers::run),
+    ("listed records", records::listed::run),
+    ("journal", journals::scan::run),
+    ("carver", journals::carver::run),
+    ("window", window::run),
+    ("names", names::run),
+    ("image", image::run),
+    ("paths", paths::run),
+];
 
 enum Command {
     Compare(Run),
@@ -72,18 +89,15 @@ fn main() -> ExitCode {
 fn record(crates: &Path) -> io::Result<()> {
     records::sample::write(&crates.join("replay_record"))?;
     journals::sample::write(&crates.join("replay_readers"))?;
-    image::sample::write(&crates.join("replay_image"))
+    image::sample::write(&crates.join("replay_image"))?;
+    paths::sample::write(&crates.join("replay_path"))
 }
 
-/// Every subject in turn, up to the first difference.
+/// Every subject in turn, or the one that is asked for, up to the first difference.
 fn compare(run: &Run) -> Outcome {
-    records::parsers::run(run)?;
-    records::listed::run(run)?;
-    journals::scan::run(run)?;
-    journals::carver::run(run)?;
-    window::run(run)?;
-    names::run(run)?;
-    image::run(run)
+    let chosen = |name: &str| run.only.as_ref().is_none_or(|only| only == name);
+    let mut subjects = SUBJECTS.iter().filter(|(name, _)| chosen(name));
+    subjects.try_for_each(|(_, compare)| compare(run))
 }
 
 /// The command line; nothing where it is not understood.
@@ -91,22 +105,24 @@ fn command(mut words: impl Iterator<Item = String>) -> Option<Command> {
     let mut run = Run {
         seed: 1,
         cases: 1_000_000,
+        only: None,
     };
     let mut other = None;
-    let mut numbers = false;
+    let mut of_a_run = false;
     while let Some(word) = words.next() {
         let value = words.next()?;
         match word.as_str() {
             "--seed" => run.seed = value.parse().ok()?,
             "--cases" => run.cases = value.parse().ok()?,
+            "--only" if SUBJECTS.iter().any(|(name, _)| *name == value) => run.only = Some(value),
             "--record" if other.is_none() => other = Some(Command::Record(value)),
             "--image" if other.is_none() => other = Some(Command::Image(value)),
             _ => return None,
         }
-        numbers |= matches!(word.as_str(), "--seed" | "--cases");
+        of_a_run |= matches!(word.as_str(), "--seed" | "--cases" | "--only");
     }
     match other {
         None => Some(Command::Compare(run)),
-        other => other.filter(|_| !numbers),
+        other => other.filter(|_| !of_a_run),
     }
 }

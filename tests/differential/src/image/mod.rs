@@ -1,13 +1,13 @@
 //! Images: the carver of MFT entries, `carve.rs` of the original, against the library's. The subject is `image`.
 
-mod cases;
+pub mod cases;
 mod comparison;
 mod edges;
 pub mod file;
 mod known;
-mod layout;
+pub mod layout;
 pub mod sample;
-mod walk;
+pub mod walk;
 
 use crate::difference::{Case, Difference, Finding, Outcome};
 use crate::random::Random;

@@ -23,7 +23,7 @@ struct Answer {
 }
 
 /// What a byte of the text holds before a call: none that UTF-8 has, and neighbours differ.
-fn untouched_byte(at: usize) -> u8 {
+pub fn untouched_byte(at: usize) -> u8 {
     0xf8 + (at % 8) as u8
 }
 
