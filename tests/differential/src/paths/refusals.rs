@@ -1,7 +1,7 @@
 //! Calls that are refused, by every test and by several at once, places around the ends of their slices, and slices
 //! around the domain's end; they depend on no seed.
 
-use super::edges::{every_room, insert, listed, some_rooms, step, table, under, Letters};
+use super::edges::{every_room, insert, listed, some_rooms, step, under, Letters};
 use super::library::{Place, Sources, CHAIN_WORDS, SLOT_WORDS};
 use super::lists::Room;
 use super::model::Slot;
@@ -44,8 +44,8 @@ pub fn places() -> Result<u64, Finding> {
     for place in all_places() {
         let slot = under(above, key, place);
         for replace in [true, false] {
-            let mut pair = table(names, &[under([5, 5], above, [0, 0, 2])])?;
-            pair = Pair::new(names, [&pair.model.words[..], &[0; SLOT_WORDS]].concat(), 1);
+            let mut pair = Pair::empty(names, 2 * SLOT_WORDS);
+            insert(&mut pair, under([5, 5], above, [0, 0, 2]))?;
             pair.store(pair.given(), Added::One { slot, replace }, STORED)?;
             some_rooms(&pair, &pair.ask(pair.given(), key)?)?;
         }
@@ -86,27 +86,33 @@ fn slices<'a>(names: Sources<'a>, above: &'a [u8]) -> [Sources<'a>; 4] {
 
 /// Additions with every combination of what is refused: the answer's words, the used slots, the place, the slots left.
 pub fn additions(letters: &Letters, above: &[u8]) -> Result<u64, Finding> {
-    let held: Vec<Slot> = (0..2).map(|at| under([5, 5], step(at), [0, 2, 2])).collect();
     let mut cases = 0;
     for names in slices(letters.names(), above) {
-        for (used, place) in [1, 2, 3, usize::MAX].into_iter().flat_map(|used| {
-            let outside = [0, DOMAIN as u64, 2];
-            [[0, 0, 2], outside, [1, u64::MAX, 2]].map(move |place| (used, place))
-        }) {
-            for at in 0..3 {
-                let slot = under([5, 5], step(at), place);
-                let two = listed(&[under([5, 5], step(2), [1, 0, 2]), slot]);
-                let listed = Added::list(&two);
-                let one = |replace| Added::One { slot, replace };
-                for (added, out) in [one(true), one(false), listed]
-                    .into_iter()
-                    .flat_map(|added| [0, 1, 2].map(|out| (added, out)))
-                {
-                    let mut pair = Pair::new(letters.names(), held.concat(), used.min(2));
-                    pair.store(Given { names, used }, added, out)?;
-                    cases += 1;
+        for used in [1, 2, 3, usize::MAX] {
+            for place in [[0, 0, 2], [0, DOMAIN as u64, 2], [1, u64::MAX, 2]] {
+                for key in (0..3).map(step) {
+                    cases += every_addition(letters, Given { names, used }, under([5, 5], key, place))?;
                 }
             }
+        }
+    }
+    Ok(cases)
+}
+
+/// A slot inserted, inserted if absent and in a list, into a table of two slots.
+fn every_addition(letters: &Letters, given: Given, slot: Slot) -> Result<u64, Finding> {
+    let held: Vec<Slot> = (0..2).map(|at| under([5, 5], step(at), [0, 2, 2])).collect();
+    let entries = listed(&[under([5, 5], step(2), [1, 0, 2]), slot]);
+    let mut cases = 0;
+    for added in [
+        Added::One { slot, replace: true },
+        Added::One { slot, replace: false },
+        Added::list(&entries),
+    ] {
+        for out in [0, STORED, STORED + 1] {
+            let mut pair = Pair::new(letters.names(), held.concat(), given.used.min(held.len()));
+            pair.store(given, added, out)?;
+            cases += 1;
         }
     }
     Ok(cases)
