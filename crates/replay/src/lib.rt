@@ -100,3 +100,19 @@ fn write_units(units: &[u8]) {
         k += 2;
     }
 }
+
+// A line: the first n bytes of a text in hexadecimal, or a dash.
+pub fn write_hex(text: &[u8], n: usize) {
+    if n == 0 {
+        io::write_all(STDOUT_FILENO, b"-");
+    }
+    write_digits(text, n);
+    io::write_all(STDOUT_FILENO, b"\n");
+}
+
+// Two digits a byte.
+fn write_digits(text: &[u8], n: usize) {
+    for i in 0..n {
+        io::print_hex(STDOUT_FILENO, byte_at(text, i) as u64, 2);
+    }
+}

@@ -11,8 +11,8 @@ use replay::NextCase;
 use replay::case_at;
 use replay::write_count;
 use replay::write_field;
+use replay::write_hex;
 use replay::write_refused;
-use usn_record::bytes::byte_at;
 use utf16::Decoded;
 use utf16::decode_utf16;
 
@@ -112,21 +112,5 @@ fn write_text(name: &[u8]) {
     match decode_utf16(name, &mut text) {
         Decoded::Text(n) => write_hex(&text, n),
         Decoded::Refused(n) => write_refused(n),
-    }
-}
-
-// A line: the first n bytes of a text in hexadecimal, or a dash.
-fn write_hex(text: &[u8], n: usize) {
-    if n == 0 {
-        io::write_all(STDOUT_FILENO, b"-");
-    }
-    write_digits(text, n);
-    io::write_all(STDOUT_FILENO, b"\n");
-}
-
-// Two digits a byte.
-fn write_digits(text: &[u8], n: usize) {
-    for i in 0..n {
-        io::print_hex(STDOUT_FILENO, byte_at(text, i) as u64, 2);
     }
 }
