@@ -1,12 +1,10 @@
 -- The steps of a chain: each is the end, or a name under the chain of the parent. Assumes nothing.
 use Prim.Native.Nat.{ℕ, zero, suc, _+_, _-_, _≤_, _<_}
-use mathlib.Core.Path.{_≡_, refl, ap, sym, _∙_}
-use mathlib.Core.List.{List, [], _∷_, _++_}
+use mathlib.Core.Path.{_≡_, refl, ap}
 use mathlib.Core.Bool.{Bool, true, false, cond}
 use native.Mathlib.Omega.{arith}
 use borrow.Author.Tests.{eq-eqb, ne-eqb}
 use lib.ListN.{length, length-append}
-use lib.Dec.{eqb}
 use Rattle.entry_table.specs.Slots.{infoAt}
 use Rattle.entry_table.specs.Table.{Table, find, lookupFound}
 use Rattle.entry_table.specs.declared.EntryKey.{EntryKey}

@@ -16,9 +16,9 @@ use Rattle.entry_table.specs.declared.EntryInfo.{EntryInfo}
 use Rattle.entry_table.specs.declared.NamePlace.{NamePlace}
 use Rattle.chain.specs.declared.ChainEnd.{ChainEnd}
 use Rattle.chain.specs.declared.steps.Way.the-variants.{End, Slot}
-use Rattle.chain.specs.Chain.{Chain, under, chain, sourceWords, chainWords, stepOf}
+use Rattle.chain.specs.Chain.{chain, sourceWords, chainWords, stepOf}
 use Rattle.chain.specs.Tracing.{listed}
-use Rattle.chain.proofs.ChainLaws.{Up, chain-end, chain-up}
+use Rattle.chain.proofs.ChainLaws.{chain-end, chain-up}
 
 -- one thing more at the end
 pub flatten-more : {A : Type 0} (words : A → List ℕ) (xs : List A) (x : A) → flatten words (xs ++ (x ∷ [])) ≡ flatten words xs ++ words x

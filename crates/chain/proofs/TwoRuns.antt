@@ -1,7 +1,7 @@
 -- What holds of every chain that is answered, and that names decide nothing of it. Assumes nothing.
 use Prim.Native.Nat.{ℕ, zero, suc, _+_, _≤_, _<_}
-use mathlib.Core.Path.{_≡_, refl, ap, sym, _∙_}
-use mathlib.Core.List.{List, [], _∷_, _++_, List·Memᴰ, List·Memᴰ·append-cases, List·Memᴰ·eq-of-singleton, List·Memᴰ·not-nil}
+use mathlib.Core.Path.{_≡_, ap, sym}
+use mathlib.Core.List.{List, List·Memᴰ, List·Memᴰ·append-cases, List·Memᴰ·eq-of-singleton, List·Memᴰ·not-nil}
 use mathlib.Core.Bool.{true, not}
 use mathlib.Core.Logic.{_⊎_, inl, inr, ⊎-elim}
 use native.Mathlib.Omega.{arith}
@@ -19,7 +19,7 @@ use Rattle.entry_table.proofs.NameLaws.{all-inside-at}
 use Rattle.chain.specs.Chain.{Chain, chain, chainOf, resolved}
 use Rattle.chain.specs.Tracing.{inDomain, tracing, chainAfter}
 use Rattle.chain.proofs.ChainLaws.{chain-cases, names-most}
-use Rattle.chain.proofs.CallLaws.{Traced, answered-traced, traced-answered}
+use Rattle.chain.proofs.CallLaws.{answered-traced, traced-answered}
 
 -- p is the name's place of a used slot
 pub record OfSlot (t : Table) (p : NamePlace) : Type 0 where

@@ -1,8 +1,8 @@
 -- The ways out of the calls, by their tests: the outcome, and what the lent list and the text then hold. Assumes nothing.
 use Prim.Native.Nat.{ℕ, _+_, _≤_, _<_}
-use mathlib.Core.Path.{_≡_, refl, ap, sym, _∙_}
+use mathlib.Core.Path.{_≡_, refl, ap, _∙_}
 use mathlib.Core.List.{List}
-use mathlib.Core.Bool.{Bool, true, false}
+use mathlib.Core.Bool.{true, false}
 use native.Mathlib.Nat.{zero-add}
 use borrow.Author.Tests.{lt-ltb, le-ltb}
 use lib.ListN.{length}
@@ -12,14 +12,14 @@ use Rattle.walk.specs.Lists.{listAfter}
 use Rattle.walk.specs.Refusals.{aboveDomain, nameOutside, textFull, domain}
 use Rattle.walk.proofs.ListLaws.{sets-front}
 use Rattle.utf16.proofs.PutLaws.{Put}
-use Rattle.entry_table.specs.Names.{Lengths, lengthsOf, inside}
+use Rattle.entry_table.specs.Names.{lengthsOf, inside}
 use Rattle.entry_table.specs.Table.{Table}
 use Rattle.entry_table.specs.declared.EntryKey.{EntryKey}
 use Rattle.entry_table.specs.declared.NamePlace.{NamePlace}
 use Rattle.chain.specs.declared.ResolvedPath.{ResolvedPath}
-use Rattle.chain.specs.Chain.{Chain, chain, chainOf, resolved}
-use Rattle.chain.specs.Tracing.{inDomain, tracing, listed, chainAfter}
-use Rattle.chain.proofs.CallLaws.{journal-above, image-above, both-within, Traced, answered-traced, traced-answered, map-refused}
+use Rattle.chain.specs.Chain.{chain, chainOf, resolved}
+use Rattle.chain.specs.Tracing.{tracing, listed, chainAfter}
+use Rattle.chain.proofs.CallLaws.{journal-above, image-above, both-within, answered-traced, traced-answered, map-refused}
 use Rattle.path.specs.Text.{placeText, placeLength, pathText}
 use Rattle.path.specs.Telling.{withText, telling, placing, decoding, Told, told}
 

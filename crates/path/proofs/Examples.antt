@@ -1,7 +1,6 @@
 -- Paths of small tables, computed: the root, an unknown key, a folder that is its own parent, and text that just fits. Assumes nothing.
-use Prim.Native.Nat.{ℕ}
 use mathlib.Core.Path.{_≡_, refl}
-use mathlib.Core.List.{List, [], _∷_, _++_}
+use mathlib.Core.List.{[], _∷_, _++_}
 use Rattle.walk.specs.Refusals.{textFull}
 use Rattle.usn_record.specs.Bytes.{le, leAt}
 use Rattle.utf16.specs.Utf16.{alone, codePoints, unitsAt}

@@ -1,8 +1,8 @@
 -- Keys nested under 5:5, as many as the depth and one more: the first path begins with the root, the second with UNRESOLVED(5:5). The slots of
 -- the table are read by a law, and not one by one. Assumes nothing.
 use Prim.Native.Nat.{ℕ, zero, suc, _+_, _*_, _/_, _≤_, _<_}
-use mathlib.Core.Path.{_≡_, refl, ap, sym, _∙_, subst}
-use mathlib.Core.List.{List, [], _∷_, _++_}
+use mathlib.Core.Path.{_≡_, refl, ap, _∙_}
+use mathlib.Core.List.{[], _∷_, _++_}
 use mathlib.Core.Bool.{Bool, true, false, cond}
 use native.Mathlib.Omega.{arith}
 use native.Mathlib.Nat.{le-refl}
@@ -18,17 +18,14 @@ use Rattle.utf16.specs.Text.{decoded}
 use Rattle.utf16.specs.Decimal.{digits}
 use Rattle.entry_table.specs.Names.{lengths, inside, allInside}
 use Rattle.entry_table.specs.Slots.{sameKey, keyAt, infoAt, findFrom, rows, namesIn}
-use Rattle.entry_table.specs.Table.{Table, find, lookupFound}
 use Rattle.entry_table.specs.declared.EntryKey.{EntryKey}
 use Rattle.entry_table.specs.declared.EntryInfo.{EntryInfo}
 use Rattle.entry_table.specs.declared.NamePlace.{NamePlace}
-use Rattle.entry_table.specs.declared.slots.Found.{Found}
 use Rattle.entry_table.specs.declared.slots.Found.the-variants.{At}
 use Rattle.entry_table.proofs.FindLaws.{other-entry, same-self}
 use Rattle.chain.specs.declared.ChainEnd.the-variants.{Root, Unresolved}
 use Rattle.chain.specs.Settings.{depth}
-use Rattle.chain.specs.Chain.{Chain, bare, under, isRoot, linked, chain, chainOf}
-use Rattle.chain.specs.Tracing.{tracing}
+use Rattle.chain.specs.Chain.{Chain, bare, under, isRoot, chain}
 use Rattle.chain.proofs.CallLaws.{traced}
 use Rattle.path.specs.Text.{unresolvedWord, keyText, endText, placeText, stepText, pathText}
 use Rattle.path.specs.Telling.{withText}
@@ -97,13 +94,13 @@ up-nested n l j h =
     (ap (λ (x : EntryInfo). under (chain (nestedTable n) l (x .parent)) (x .name)) (info-nested 5 n j h))
 
 -- the chain of the key after j others, with l levels left
-abbrev climbed : ℕ → ℕ → Chain
+unfoldable climbed : ℕ → ℕ → Chain
 climbed zero j = bare (Unresolved (key (5 + j) 5))
 climbed (suc l) zero = bare Root
 climbed (suc l) (suc j) = under (climbed l j) placeA
 
 climb : (n l j : ℕ) → j ≤ n → chain (nestedTable n) l (key (5 + j) 5) ≡ climbed l j
-unfolding chain isRoot
+unfolding chain isRoot climbed
 climb n zero j h = refl
 climb n (suc l) zero h = refl
 climb n (suc l) (suc j) h =
@@ -122,10 +119,10 @@ says n room u e =
 
 -- 256 names under 5:5 begin with the root
 pub nested-256 : pathSays (nestedTable 256) (lastKey 256) 513 ≡ 0 ∷ 0x2E ∷ timesA 256
-unfolding nested timesA rows inside allInside pathText endText keyText stepText placeText digits decoded codePoints alone utf8 unitsAt leAt le
+unfolding climbed nested timesA rows inside allInside pathText endText keyText stepText placeText digits decoded codePoints alone utf8 unitsAt leAt le
 nested-256 = says 256 513 (le-refl 256) refl ∙ refl
 
 -- 257 names begin with UNRESOLVED(5:5)
 pub nested-257 : pathSays (nestedTable 257) (lastKey 257) 529 ≡ 0 ∷ (unresolvedWord ++ (0x35 ∷ 0x3A ∷ 0x35 ∷ 0x29 ∷ timesA 257))
-unfolding nested timesA rows inside allInside pathText endText keyText stepText placeText digits decoded codePoints alone utf8 unitsAt leAt le
+unfolding climbed nested timesA rows inside allInside pathText endText keyText stepText placeText digits decoded codePoints alone utf8 unitsAt leAt le
 nested-257 = says 257 529 (le-refl 257) refl ∙ refl

@@ -1,8 +1,8 @@
 -- The text of a chain: by its steps, and its length. Assumes nothing.
 use Prim.Native.Nat.{ℕ, zero, suc, _+_, _-_, _*_, _≤_, _<_}
-use mathlib.Core.Path.{_≡_, refl, ap, sym, _∙_}
-use mathlib.Core.List.{List, [], _∷_, _++_}
-use mathlib.Core.Bool.{Bool, true, false}
+use mathlib.Core.Path.{_≡_, ap, _∙_}
+use mathlib.Core.List.{List, [], _++_}
+use mathlib.Core.Bool.{true}
 use native.Mathlib.Omega.{arith}
 use lib.ListN.{length, length-append}
 use Rattle.entry_table.specs.Names.{lengthsOf, inside, allInside}
@@ -13,8 +13,8 @@ use Rattle.entry_table.specs.declared.EntryInfo.{EntryInfo}
 use Rattle.entry_table.proofs.NameLaws.{all-inside-at}
 use Rattle.chain.specs.declared.ChainEnd.{ChainEnd}
 use Rattle.chain.specs.declared.steps.Way.the-variants.{End, Slot}
-use Rattle.chain.specs.Chain.{Chain, bare, under, chain, stepOf}
-use Rattle.chain.proofs.ChainLaws.{Up, chain-end, chain-up, chain-cases}
+use Rattle.chain.specs.Chain.{Chain, chain, stepOf}
+use Rattle.chain.proofs.ChainLaws.{chain-end, chain-up, chain-cases}
 use Rattle.chain.proofs.PlaceLaws.{flatten-more}
 use Rattle.path.specs.Text.{endText, placeText, stepText, namesText, pathText}
 use Rattle.path.proofs.NameLaws.{Sources, step-long, stepMost, step-most}
@@ -25,10 +25,6 @@ pub slot-inside : (journal image : List ℕ) (t : Table) {i : ℕ} → allInside
 slot-inside journal image t {i} e h = all-inside-at (lengthsOf journal image) (nameAt (t .words)) 0 (t .used) i e (omega arith) (omega arith)
 
 module _ (journal image : List ℕ) (t : Table) (n : ℕ) (k : EntryKey) where
-  -- the text of the names of a chain
-  abbrev pub namesOf : List ℕ
-  namesOf = namesText journal image (chain t n k .places)
-
   pub names-end : {e : ChainEnd} → End e ≡ stepOf t n k → namesText journal image (chain t n k .places) ≡ []
   names-end h = rw (chain-end t n k h)
 

@@ -1,7 +1,7 @@
 -- Two runs whose journals and images have equal lengths: only the text, and whether it fits, can differ. And a text that was too small can be
 -- made large enough. Assumes nothing.
-use Prim.Native.Nat.{ℕ, _≤_}
-use mathlib.Core.Path.{_≡_, refl, ap, sym, _∙_}
+use Prim.Native.Nat.{ℕ}
+use mathlib.Core.Path.{_≡_, refl}
 use mathlib.Core.List.{List}
 use mathlib.Core.Bool.{Bool, true, false, cond, not}
 use mathlib.Core.Logic.{_⊎_, inl, inr, ⊎-elim}
@@ -10,15 +10,14 @@ use native.Mathlib.Nat.{le-refl}
 use lib.ListN.{length}
 use lib.Dec.{ltb}
 use Rattle.walk.specs.Outcome.{Outcome, refused, answered}
-use Rattle.walk.specs.Refusals.{aboveDomain, nameOutside, badState, textFull, domain}
+use Rattle.walk.specs.Refusals.{aboveDomain, nameOutside, textFull, domain}
 use Rattle.walk.proofs.ChoiceLaws.{cond-cases}
 use Rattle.entry_table.specs.Names.{Lengths, lengthsOf, inside}
 use Rattle.entry_table.specs.Table.{Table}
 use Rattle.entry_table.specs.declared.EntryKey.{EntryKey}
 use Rattle.entry_table.specs.declared.NamePlace.{NamePlace}
-use Rattle.chain.specs.Chain.{Chain}
 use Rattle.chain.specs.Tracing.{inDomain, tracing}
-use Rattle.chain.proofs.TwoRuns.{Core, core-refusals}
+use Rattle.chain.proofs.TwoRuns.{core-refusals}
 use Rattle.path.specs.Text.{placeText, pathText}
 use Rattle.path.specs.Telling.{withText, telling, placing, decoding}
 use Rattle.path.proofs.CallLaws.{text-fits}

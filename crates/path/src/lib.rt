@@ -41,7 +41,9 @@ pub enum PathAnswer {
     Refused(u32),
 }
 
-// The path of a key. Its text stands at the front of the lent text.
+// The path of a key: its places in the lent list, as path_chain leaves them, and its text at the front of the lent text.
+// Refused, with nothing written: 1 journal or image is above the domain, 9 used is above the slots, 7 the name's place of a
+// used slot is outside its slice, 8 the text is too small.
 pub fn path(
     journal: &[u8],
     image: &[u8],
@@ -71,7 +73,8 @@ pub fn path(
 }
 
 // The text of the name at a place, at the front of the lent text. An odd last byte is dropped.
-// Refused, with nothing written: 1, 7 the place, with all its bytes, is outside its slice, 8.
+// Refused, with nothing written: 1 journal or image is above the domain, 7 the place, as it is given, is outside its slice, 8 the
+// text is too small.
 pub fn decode(
     journal: &[u8],
     image: &[u8],

@@ -1,6 +1,5 @@
 -- Each way out by its tests.
 use mathlib.Core.Path.{ap, sym, _∙_}
-use native.Mathlib.Omega.{arith}
 use borrow.Author.Needs.{needs}
 use borrow.Author.Tests.{not-true, not-false}
 use Rattle.walk.specs.Outcome.{answered, mapOutcome}

@@ -1,7 +1,6 @@
 -- Each way out by its tests.
-use mathlib.Core.Path.{ap, sym, _∙_}
+use mathlib.Core.Path.{sym, _∙_}
 use borrow.Author.Needs.{needs}
-use Rattle.chain.specs.Chain.{stepFound}
 use Rattle.chain.proofs.ChainLaws.{step-deep, step-root, step-found}
 use Rattle.chain.proofs.steps.step.Statement.{statement}
 use Rattle.chain.proofs.steps.step.Tie as tie
