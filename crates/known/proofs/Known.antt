@@ -1,4 +1,5 @@
--- Every case of the table holds: the checker computes one test over all of them, and one law turns it into each. Assumes nothing.
+-- Every case of the table holds: the checker computes one test over all of them but the deep paths, which have laws, and one law turns it into
+-- each. Assumes nothing.
 use Prim.Native.Nat.{ℕ}
 use mathlib.Core.Path.{_≡_, refl, sym, ap, _∙_}
 use mathlib.Core.List.{List, [], _∷_, List·Memᴰ, List·Memᴰ·head, List·Memᴰ·tail, List·Memᴰ·not-nil}
@@ -10,6 +11,7 @@ use Rattle.usn_record.specs.Fields.{timestampOf, referenceOf, filenameOf}
 use Rattle.usn_record.specs.Record.{recordOf, parsed, listed, recordWords}
 use Rattle.walk.specs.Walk.{walk, from}
 use Rattle.walk.proofs.ChoiceLaws.{and-left, and-right}
+use Rattle.walk.proofs.WalkLaws.{All, all-append}
 use Rattle.usn_journal.specs.Scan.{kindByVersion, kindOf, visit, scanned}
 use Rattle.usn_journal.specs.Outcome.{scan}
 use Rattle.usn_carver.specs.Carve.{judged, visitAs, carving}
@@ -25,7 +27,10 @@ use Rattle.utf16.specs.Utf16.{alone, codePoints}
 use Rattle.utf16.specs.Utf8.{utf8}
 use Rattle.utf16.specs.Text.{decoded}
 use Rattle.known.specs.Case.{Case, same, right}
-use Rattle.known.specs.Cases.{cases}
+use Rattle.path.proofs.Examples.{loops}
+use Rattle.path.proofs.NestedLaws.{nested-256, nested-257}
+use Rattle.known.specs.Cases.{computedCases, cases}
+use Rattle.known.specs.Paths.{depths}
 
 same-eq : (xs ys : List ℕ) → same xs ys ≡ true → xs ≡ ys
 same-eq [] [] e = refl
@@ -36,15 +41,24 @@ same-eq (x ∷ xs) (y ∷ ys) e =
     let t : xs ≡ ys = same-eq xs ys (and-right (eqb x y) (same xs ys) e) in
     cc
 
--- each case of a table that passes the test is as known
-as-known : (cs : List Case) → right cs ≡ true → (c : Case) → List·Memᴰ c cs → c .says ≡ c .known
-as-known [] e c m = absurd (List·Memᴰ·not-nil m)
-as-known (x ∷ cs) e c (List·Memᴰ·head q) = rw q (same-eq (x .says) (x .known) (and-left (same (x .says) (x .known)) (right cs) e))
-as-known (x ∷ cs) e c (List·Memᴰ·tail m) = as-known cs (and-right (same (x .says) (x .known)) (right cs) e) c m
+-- a case is as known
+abbrev Holds : Case → Type 0
+Holds c = c .says ≡ c .known
 
-computed : right cases ≡ true
+-- every case of a table that passes the test is
+all-right : (cs : List Case) → right cs ≡ true → All Holds cs
+all-right [] e = tt
+all-right (x ∷ cs) e =
+    (same-eq (x .says) (x .known) (and-left (same (x .says) (x .known)) (right cs) e), all-right cs (and-right (same (x .says) (x .known)) (right cs) e))
+
+member : (cs : List Case) → All Holds cs → (c : Case) → List·Memᴰ c cs → Holds c
+member [] h c m = absurd (List·Memᴰ·not-nil m)
+member (x ∷ cs) h c (List·Memᴰ·head q) = rw q (h .0)
+member (x ∷ cs) h c (List·Memᴰ·tail m) = member cs (h .1) c m
+
+computed : right computedCases ≡ true
 unfolding le leAt timestampOf referenceOf filenameOf recordOf parsed listed recordWords walk from kindByVersion kindOf visit scanned scan judged visitAs carverVisit carving stepAt steps toCome replaces keep given attributeAt filenameIn attributeVisit hasSignature entryJudged imageVisit alone codePoints utf8 decoded
 computed = refl
 
-pub known : (c : Case) → List·Memᴰ c cases → c .says ≡ c .known
-known = as-known cases computed
+pub known : (c : Case) → List·Memᴰ c cases → Holds c
+known = member cases (all-append Holds computedCases depths (all-right computedCases computed) (nested-256, (nested-257, (loops, tt))))

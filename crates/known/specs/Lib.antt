@@ -3,4 +3,5 @@ pub mod Bytes
 pub mod Records
 pub mod Journals
 pub mod Images
+pub mod Paths
 pub mod Cases
