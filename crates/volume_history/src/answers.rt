@@ -72,8 +72,8 @@ pub(crate) fn put_used(stored: Stored, out: &mut [u64]) -> u32
     ensures { λ _. ⌜ now (out .exit) ≡ listAfter countWords (storingOutcome stored) (now (out .entry)) ⌝ }
 {
     match stored {
-        Stored::Used(n) => {
-            out[0] = n as u64;
+        Stored::Used(used) => {
+            out[0] = used as u64;
             0
         }
         Stored::Refused(n) => n,
