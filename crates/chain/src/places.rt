@@ -17,7 +17,7 @@ use walk::put_words;
 const PLACE_WORDS: usize = 3;
 
 // The places of a key's chain into a list, which has room for them. The answer is how many words they take.
-pub fn put_chain(
+pub(crate) fn put_chain(
     slots: &[u64],
     used: usize,
     key: EntryKey,

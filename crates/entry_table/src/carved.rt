@@ -89,7 +89,7 @@ fn is_seen(slots: &[u64], used: usize, entries: &[u64], i: usize, key: EntryKey)
 }
 
 // How many different keys of the carved entries are new to the table.
-pub fn new_keys(slots: &[u64], used: usize, entries: &[u64]) -> usize
+pub(crate) fn new_keys(slots: &[u64], used: usize, entries: &[u64]) -> usize
     requires { ⌜ used * stride ≤ length (now slots) ⌝ }
     ensures { λ r. ⌜ r ≡ newKeys (known (table (now (slots .entry)) used)) (keysOf (carvedIn (now (entries .entry)))) ⌝ }
 {

@@ -13,7 +13,7 @@ pub const JOURNAL: u64 = 0;
 pub const IMAGE: u64 = 1;
 
 // The length of the slice that a source names.
-pub fn length_of(source: u64, journal_length: usize, image_length: usize) -> usize
+pub(crate) fn length_of(source: u64, journal_length: usize, image_length: usize) -> usize
     ensures { λ r. ⌜ r ≡ lengthOf (lengths «journal_length» «image_length») source ⌝ }
 {
     if source == JOURNAL {

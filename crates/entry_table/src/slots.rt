@@ -23,7 +23,7 @@ pub enum Found {
 }
 
 // Whether two keys are the same.
-pub fn same_key(a: EntryKey, b: EntryKey) -> bool
+pub(crate) fn same_key(a: EntryKey, b: EntryKey) -> bool
     ensures { λ r. ⌜ r ≡ sameKey a b ⌝ }
 {
     if a.entry == b.entry {
@@ -44,7 +44,7 @@ pub(crate) fn key_in(words: &[u64], p: usize) -> EntryKey
 }
 
 // The key in slot i.
-pub fn key_at(slots: &[u64], i: usize) -> EntryKey
+pub(crate) fn key_at(slots: &[u64], i: usize) -> EntryKey
     requires { ⌜ i * stride + stride ≤ length (now slots) ⌝ }
     ensures { λ r. ⌜ r ≡ keyAt (now (slots .entry)) i ⌝ }
 {
@@ -52,7 +52,7 @@ pub fn key_at(slots: &[u64], i: usize) -> EntryKey
 }
 
 // Where the name of slot i lies.
-pub fn name_at(slots: &[u64], i: usize) -> NamePlace
+pub(crate) fn name_at(slots: &[u64], i: usize) -> NamePlace
     requires { ⌜ i * stride + stride ≤ length (now slots) ⌝ }
     ensures { λ r. ⌜ r ≡ nameAt (now (slots .entry)) i ⌝ }
 {
@@ -110,7 +110,13 @@ fn put(slots: &mut [u64], i: usize, key: EntryKey, info: EntryInfo)
 
 // Stores an entry under its key. A known one is replaced, or left alone where replace is false; a new one takes the first slot
 // that is not used. Refused, with nothing written: 6 the key is new and no slot is left.
-pub fn add(slots: &mut [u64], used: usize, key: EntryKey, info: EntryInfo, replace: bool) -> Stored
+pub(crate) fn add(
+    slots: &mut [u64],
+    used: usize,
+    key: EntryKey,
+    info: EntryInfo,
+    replace: bool,
+) -> Stored
     requires { ⌜ used ≤ slotsIn (now slots) ⌝ }
     ensures { λ r. ⌜ outcome r ≡ usedAfter (adding (table (now (slots .entry)) used) (addition key info replace ∷ [])) ⌝ }
     ensures { λ _. ⌜ now (slots .exit) ≡ wordsAfter (adding (table (now (slots .entry)) used) (addition key info replace ∷ [])) (now (slots .entry)) ⌝ }

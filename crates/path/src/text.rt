@@ -45,7 +45,7 @@ fn put_key(text: &mut [u8], at: usize, key: EntryKey) -> usize
 }
 
 // How many bytes a chain's end takes: few enough for any sum.
-pub fn end_length(end: ChainEnd) -> usize
+pub(crate) fn end_length(end: ChainEnd) -> usize
     ensures { λ r. ⌜ (r ≡ length (endText end)) × (r < 2 ^ 62) ⌝ }
 {
     match end {
@@ -56,7 +56,7 @@ pub fn end_length(end: ChainEnd) -> usize
 }
 
 // A full stop, or a marker.
-pub fn put_end(text: &mut [u8], at: usize, end: ChainEnd) -> usize
+pub(crate) fn put_end(text: &mut [u8], at: usize, end: ChainEnd) -> usize
     requires { ⌜ at + length (endText end) ≤ length (now text) ⌝ }
     ensures { λ r. ⌜ r ≡ at + length (endText end) ⌝ }
     ensures { λ _. ⌜ now (text .exit) ≡ sets (now (text .entry)) at (endText end) ⌝ }
@@ -75,7 +75,7 @@ pub fn put_end(text: &mut [u8], at: usize, end: ChainEnd) -> usize
 }
 
 // How many bytes the text of the name at a place takes.
-pub fn place_length(journal: &[u8], image: &[u8], place: NamePlace) -> usize
+pub(crate) fn place_length(journal: &[u8], image: &[u8], place: NamePlace) -> usize
     requires { ⌜ inside (lengthsOf (now journal) (now image)) place ≡ true ⌝ }
     ensures { λ r. ⌜ r ≡ length (placeText (now (journal .entry)) (now (image .entry)) place) ⌝ }
 {
@@ -88,7 +88,7 @@ pub fn place_length(journal: &[u8], image: &[u8], place: NamePlace) -> usize
 }
 
 // The text of the name at a place.
-pub fn put_place(
+pub(crate) fn put_place(
     journal: &[u8],
     image: &[u8],
     place: NamePlace,
@@ -109,7 +109,13 @@ pub fn put_place(
 }
 
 // A backslash and the name at a place.
-pub fn put_step(journal: &[u8], image: &[u8], place: NamePlace, text: &mut [u8], at: usize) -> usize
+pub(crate) fn put_step(
+    journal: &[u8],
+    image: &[u8],
+    place: NamePlace,
+    text: &mut [u8],
+    at: usize,
+) -> usize
     requires { ⌜ inside (lengthsOf (now journal) (now image)) place ≡ true ⌝ }
     requires { ⌜ at + length (stepText (now journal) (now image) place) ≤ length (now text) ⌝ }
     ensures { λ r. ⌜ r ≡ at + length (stepText (now (journal .entry)) (now (image .entry)) place) ⌝ }
@@ -120,7 +126,7 @@ pub fn put_step(journal: &[u8], image: &[u8], place: NamePlace, text: &mut [u8],
 }
 
 // How many bytes the names of a key's chain take, each with its backslash.
-pub fn names_length(
+pub(crate) fn names_length(
     journal: &[u8],
     image: &[u8],
     slots: &[u64],
@@ -147,7 +153,7 @@ pub fn names_length(
 }
 
 // The names of a key's chain, each after a backslash, from the top down.
-pub fn put_names(
+pub(crate) fn put_names(
     journal: &[u8],
     image: &[u8],
     slots: &[u64],
@@ -176,7 +182,7 @@ pub fn put_names(
 }
 
 // How many bytes a key's path takes, of which the end is known.
-pub fn path_length(
+pub(crate) fn path_length(
     journal: &[u8],
     image: &[u8],
     slots: &[u64],
@@ -195,7 +201,7 @@ pub fn path_length(
 }
 
 // A key's path, of which the end is known, at the front of a text, which has room for it.
-pub fn put_path(
+pub(crate) fn put_path(
     journal: &[u8],
     image: &[u8],
     slots: &[u64],

@@ -69,7 +69,7 @@ pub fn name_length(source: &[u8], offset: usize, size: usize) -> usize
 
 // Whether the text of a name takes no more than room bytes. They are counted only where room is less than three bytes a unit,
 // the most that a unit gives.
-pub fn has_room(source: &[u8], offset: usize, size: usize, room: usize) -> bool
+pub(crate) fn has_room(source: &[u8], offset: usize, size: usize, room: usize) -> bool
     requires { ⌜ offset + size ≤ length (now source) ⌝ }
     ensures { λ r. ⌜ r ≡ leb (length (nameText (now (source .entry)) offset size)) room ⌝ }
 {
