@@ -48,7 +48,7 @@ pub fn step(slots: &[u64], used: usize, key: EntryKey, levels: usize) -> Way
 
 // The names and the end of a key's chain: a name more than its parent's, which has a level less. The key that is asked for has
 // one level more than the depth, so that its parent has as many as the depth.
-pub(crate) fn resolve(slots: &[u64], used: usize, key: EntryKey, levels: usize) -> ResolvedPath
+pub fn resolve(slots: &[u64], used: usize, key: EntryKey, levels: usize) -> ResolvedPath
     requires { ⌜ used * stride ≤ length (now slots) ⌝ }
     requires { ⌜ levels ≤ deepest + 1 ⌝ }
     ensures { λ r. ⌜ r ≡ resolved (chain (table (now (slots .entry)) used) levels key) ⌝ }

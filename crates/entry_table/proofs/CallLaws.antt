@@ -8,6 +8,7 @@ use native.Mathlib.Omega.{arith}
 use borrow.Author.Tests.{ltb-true, ltb-false, not-false}
 use lib.ListN.{length}
 use lib.Dec.{ltb}
+use Rattle.walk.specs.Lists.{every}
 use Rattle.walk.specs.Outcome.{Outcome, refused, answered}
 use Rattle.walk.specs.Refusals.{badState, nameOutside, tableFull}
 use Rattle.walk.proofs.ChoiceLaws.{cond-cases, and-left, and-right}
@@ -119,7 +120,7 @@ inserted-full ls t k info replace =
 -- where all of a list can be stored, so can each entry by a call of its own, in turn
 accepted-in-turn : (ls : Lengths) (t : Table) (xs : List Addition) → allInside ls (namesOf xs) ≡ true → t .used + newKeys (known t) (keysOf xs) ≤ slotsIn (t .words)
     → inTurn ls t xs ≡ answered (addAll t xs)
-unfolding inTurn addAll allInside
+unfolding inTurn addAll every
 accepted-in-turn ls t [] places room = refl
 accepted-in-turn ls t (x ∷ xs) places room =
     let w : Adding t t (x ∷ xs) (x ∷ xs) = adding-start t (x ∷ xs) room in
@@ -136,7 +137,7 @@ accepted-in-turn ls t (x ∷ xs) places room =
 
 -- and where each call in turn goes ahead, so does storing all at once
 in-turn-accepted : (ls : Lengths) (t u : Table) (xs : List Addition) → inTurn ls t xs ≡ answered u → t .used ≤ slotsIn (t .words) → Accepted ls t xs u
-unfolding inTurn addAll allInside
+unfolding inTurn addAll every
 in-turn-accepted ls t u [] e fits = record { fits = fits; places = refl; room = omega (arith, new-none (known t)); leaves = cc }
 in-turn-accepted ls t u (x ∷ xs) e fits = go (storing ls t (x ∷ [])) refl (in-turn-accepted ls (add t x) u xs) e
   where

@@ -5,8 +5,9 @@ pub mod FindLaws
 pub mod PutLaws
 pub mod TableLaws
 pub mod StoringLaws
+pub mod AddLaws
 pub mod CountLaws
-pub mod SeedLaws
+pub mod AdditionLaws
 pub mod KeptLaws
 pub mod CallLaws
 pub mod Examples

@@ -14,15 +14,15 @@ use Rattle.entry_table.specs.declared.EntryKey.{EntryKey}
 use Rattle.entry_table.specs.declared.EntryInfo.{EntryInfo}
 
 -- stores of a row leave what is before and after it, and are read back
-sets-before : (vs l : List ℕ) (a p : ℕ) → p < a → getD (sets l a vs) p 0 ≡ getD l p 0
+pub sets-before : (vs l : List ℕ) (a p : ℕ) → p < a → getD (sets l a vs) p 0 ≡ getD l p 0
 sets-before [] l a p h = refl
 sets-before (v ∷ vs) l a p h = sets-before vs (set l a v) (suc a) p (omega arith) ∙ getD-set-other l a p v 0 (omega arith)
 
-sets-after : (vs l : List ℕ) (a p : ℕ) → a + length vs ≤ p → getD (sets l a vs) p 0 ≡ getD l p 0
+pub sets-after : (vs l : List ℕ) (a p : ℕ) → a + length vs ≤ p → getD (sets l a vs) p 0 ≡ getD l p 0
 sets-after [] l a p h = refl
 sets-after (v ∷ vs) l a p h = sets-after vs (set l a v) (suc a) p (omega arith) ∙ getD-set-other l a p v 0 (omega arith)
 
-sets-at : (vs l : List ℕ) (a r : ℕ) → r < length vs → a + length vs ≤ length l → getD (sets l a vs) (a + r) 0 ≡ getD vs r 0
+pub sets-at : (vs l : List ℕ) (a r : ℕ) → r < length vs → a + length vs ≤ length l → getD (sets l a vs) (a + r) 0 ≡ getD vs r 0
 sets-at [] l a r h g = absurd (omega arith)
 sets-at (v ∷ vs) l a zero h g = rw (add-zero a) (sets-before vs (set l a v) (suc a) a (omega arith) ∙ getD-set-same l a v 0 (omega arith))
 sets-at (v ∷ vs) l a (suc r) h g =

@@ -105,7 +105,7 @@ module _ (t : Table) (a : Addition) (room : t .used + cond (known t (a .key)) 0 
   fits = omega arith
 
   -- by where the key stands
-  by-find : (P : Table → Type 0)
+  pub by-find : (P : Table → Type 0)
       → ((i : ℕ) → find t (a .key) ≡ At i → a .replace ≡ true → P (table (putAt (t .words) i (a .key) (a .info)) (t .used)))
       → ((i : ℕ) → find t (a .key) ≡ At i → a .replace ≡ false → P t)
       → (find t (a .key) ≡ Nothing → t .used < slotsIn (t .words) → P (table (putAt (t .words) (t .used) (a .key) (a .info)) (t .used + 1)))

@@ -1,14 +1,14 @@
 -- Seeding: the image carver's flat list of entries, nine words an entry, added if absent.
-use Prim.Native.Nat.{ℕ, zero, suc, _+_, _*_, _/_}
+use Prim.Native.Nat.{ℕ, _+_, _*_, _/_}
 use mathlib.Core.List.{List}
-use mathlib.Core.Bool.{Bool, false, _||_}
+use mathlib.Core.Bool.{false}
 use lib.ListN.{length, getD}
 use Rattle.walk.specs.Outcome.{Outcome}
 use Rattle.mft_carver.specs.Carve.{stride}
 use Rattle.mft_carver.specs.declared.CarvedMftEntry.{CarvedMftEntry}
 use Rattle.entry_table.specs.Names.{Lengths}
-use Rattle.entry_table.specs.Slots.{sameKey, keyIn, rows}
-use Rattle.entry_table.specs.Table.{Table, known, Addition, addition}
+use Rattle.entry_table.specs.Slots.{keyIn, rows}
+use Rattle.entry_table.specs.Table.{Table, Addition, addition}
 use Rattle.entry_table.specs.Storing.{storing}
 use Rattle.entry_table.specs.declared.EntryKey.{EntryKey}
 use Rattle.entry_table.specs.declared.NamePlace.{NamePlace}
@@ -53,8 +53,3 @@ additionOf x =
 -- seeding stores them all, or none
 abbrev pub seeding : Lengths → Table → List ℕ → Outcome Table
 seeding ls t es = storing ls t (carvedIn es)
-
--- a key is in the table or among the first i carved entries
-unfoldable pub seen : Table → List ℕ → ℕ → EntryKey → Bool
-seen t es zero k = known t k
-seen t es (suc i) k = seen t es i k || sameKey (carvedKey es i) k

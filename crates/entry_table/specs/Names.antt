@@ -1,9 +1,10 @@
 -- Where names lie: in the journal or in the image, of which the table knows the lengths alone.
 use Prim.Native.Nat.{ℕ, _+_}
-use mathlib.Core.List.{List, [], _∷_}
-use mathlib.Core.Bool.{Bool, true, cond, _&&_}
+use mathlib.Core.List.{List}
+use mathlib.Core.Bool.{Bool, cond}
 use lib.ListN.{length}
 use lib.Dec.{leb, eqb}
+use Rattle.walk.specs.Lists.{every}
 use Rattle.entry_table.specs.declared.NamePlace.{NamePlace}
 
 -- source 0 is the journal, any other the image
@@ -31,6 +32,5 @@ unfoldable pub inside : Lengths → NamePlace → Bool
 inside ls p = leb (p .offset + p .length) (lengthOf ls (p .source))
 
 -- all of these do
-unfoldable pub allInside : Lengths → List NamePlace → Bool
-allInside ls [] = true
-allInside ls (p ∷ ps) = inside ls p && allInside ls ps
+abbrev pub allInside : Lengths → List NamePlace → Bool
+allInside ls = every (inside ls)

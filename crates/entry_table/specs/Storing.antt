@@ -1,5 +1,5 @@
 -- The calls that store entries: how many keys are new, the refusals in their order, and what the lent words hold after them.
-use Prim.Native.Nat.{ℕ, _+_}
+use Prim.Native.Nat.{ℕ, zero, suc, _+_}
 use mathlib.Core.List.{List, [], _∷_, map}
 use mathlib.Core.Bool.{Bool, cond, not, _||_}
 use lib.Dec.{ltb}
@@ -18,6 +18,11 @@ use Rattle.entry_table.specs.declared.Stored.the-variants.{Used, Refused
 unfoldable pub newKeys : (EntryKey → Bool) → List EntryKey → ℕ
 newKeys isKnown [] = 0
 newKeys isKnown (k ∷ ks) = cond (isKnown k) 0 1 + newKeys (λ j. isKnown j || sameKey k j) ks
+
+-- a key is in the table or among the first i of these keys: what a loop that counts new keys asks
+unfoldable pub seen : Table → (ℕ → EntryKey) → ℕ → EntryKey → Bool
+seen t keys zero k = known t k
+seen t keys (suc i) k = seen t keys i k || sameKey (keys i) k
 
 abbrev pub keysOf : List Addition → List EntryKey
 keysOf xs = map (λ (a : Addition). a .key) xs

@@ -20,6 +20,14 @@ table s used = record { words = s; used = used }
 abbrev pub find : Table → EntryKey → Found
 find t k = findFrom (t .words) k 0 (t .used)
 
+-- the slot that an entry under a key goes to: that of the key, or the first that is not used
+abbrev pub slotOr : ℕ → Found → ℕ
+slotOr used (At i) = i
+slotOr used Nothing = used
+
+abbrev pub slotFor : Table → EntryKey → ℕ
+slotFor t k = slotOr (t .used) (find t k)
+
 -- what a table says of a key
 pub data Lookup : Type 0 where
   unknown : Lookup

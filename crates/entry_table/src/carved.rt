@@ -6,8 +6,8 @@ ghost use lib.Dec.{leb};
 ghost use Rattle.entry_table.specs.Names.{lengths, allInside};
 ghost use Rattle.entry_table.specs.Slots.{stride, slotsIn};
 ghost use Rattle.entry_table.specs.Table.{table, known};
-ghost use Rattle.entry_table.specs.Storing.{newKeys, keysOf, namesOf, adding, usedAfter, wordsAfter, outcome};
-ghost use Rattle.entry_table.specs.Carved.{row, carvedKey, carvedName, carvedInfo, carvedIn, seen};
+ghost use Rattle.entry_table.specs.Storing.{newKeys, seen, keysOf, namesOf, adding, usedAfter, wordsAfter, outcome};
+ghost use Rattle.entry_table.specs.Carved.{row, carvedKey, carvedName, carvedInfo, carvedIn};
 use crate::EntryInfo;
 use crate::EntryKey;
 use crate::NamePlace;
@@ -73,7 +73,7 @@ pub(crate) fn carved_inside(entries: &[u64], journal_length: usize, image_length
 // Whether a key is in the table or among the first i carved entries.
 fn is_seen(slots: &[u64], used: usize, entries: &[u64], i: usize, key: EntryKey) -> bool
     requires { ⌜ (used * stride ≤ length (now slots)) × (i * row ≤ length (now entries)) ⌝ }
-    ensures { λ r. ⌜ r ≡ seen (table (now (slots .entry)) used) (now (entries .entry)) i key ⌝ }
+    ensures { λ r. ⌜ r ≡ seen (table (now (slots .entry)) used) (carvedKey (now (entries .entry))) i key ⌝ }
 {
     if let Found::At(_) = find(slots, used, key) {
         return true;

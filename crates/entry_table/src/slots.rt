@@ -4,7 +4,7 @@ ghost use mathlib.Core.List.{[], _∷_};
 ghost use Prim.Native.Nat.{_+_, _*_, _≤_};
 ghost use lib.ListN.{length};
 ghost use Rattle.entry_table.specs.Slots.{stride, slotsIn, sameKey, keyIn, keyAt, nameAt, infoAt, putAt};
-ghost use Rattle.entry_table.specs.Table.{table, find, addition};
+ghost use Rattle.entry_table.specs.Table.{table, find, slotFor, addition};
 ghost use Rattle.entry_table.specs.Storing.{adding, usedAfter, wordsAfter, outcome};
 use crate::EntryInfo;
 use crate::EntryKey;
@@ -23,7 +23,7 @@ pub enum Found {
 }
 
 // Whether two keys are the same.
-pub(crate) fn same_key(a: EntryKey, b: EntryKey) -> bool
+pub fn same_key(a: EntryKey, b: EntryKey) -> bool
     ensures { λ r. ⌜ r ≡ sameKey a b ⌝ }
 {
     if a.entry == b.entry {
@@ -44,7 +44,7 @@ pub(crate) fn key_in(words: &[u64], p: usize) -> EntryKey
 }
 
 // The key in slot i.
-pub(crate) fn key_at(slots: &[u64], i: usize) -> EntryKey
+pub fn key_at(slots: &[u64], i: usize) -> EntryKey
     requires { ⌜ i * stride + stride ≤ length (now slots) ⌝ }
     ensures { λ r. ⌜ r ≡ keyAt (now (slots .entry)) i ⌝ }
 {
@@ -89,8 +89,19 @@ pub fn find(slots: &[u64], used: usize, key: EntryKey) -> Found
     Found::Nothing
 }
 
+// The slot that an entry under a key goes to: that of the key, or the first that is not used.
+pub fn slot_for(slots: &[u64], used: usize, key: EntryKey) -> usize
+    requires { ⌜ used * stride ≤ length (now slots) ⌝ }
+    ensures { λ r. ⌜ r ≡ slotFor (table (now (slots .entry)) used) key ⌝ }
+{
+    match find(slots, used, key) {
+        Found::At(i) => i,
+        Found::Nothing => used,
+    }
+}
+
 // An entry into slot i.
-fn put(slots: &mut [u64], i: usize, key: EntryKey, info: EntryInfo)
+pub fn put(slots: &mut [u64], i: usize, key: EntryKey, info: EntryInfo)
     requires { ⌜ i * stride + stride ≤ length (now slots) ⌝ }
     ensures { λ _. ⌜ now (slots .exit) ≡ putAt (now (slots .entry)) i key info ⌝ }
 {
@@ -110,13 +121,7 @@ fn put(slots: &mut [u64], i: usize, key: EntryKey, info: EntryInfo)
 
 // Stores an entry under its key. A known one is replaced, or left alone where replace is false; a new one takes the first slot
 // that is not used. Refused, with nothing written: 6 the key is new and no slot is left.
-pub(crate) fn add(
-    slots: &mut [u64],
-    used: usize,
-    key: EntryKey,
-    info: EntryInfo,
-    replace: bool,
-) -> Stored
+pub fn add(slots: &mut [u64], used: usize, key: EntryKey, info: EntryInfo, replace: bool) -> Stored
     requires { ⌜ used ≤ slotsIn (now slots) ⌝ }
     ensures { λ r. ⌜ outcome r ≡ usedAfter (adding (table (now (slots .entry)) used) (addition key info replace ∷ [])) ⌝ }
     ensures { λ _. ⌜ now (slots .exit) ≡ wordsAfter (adding (table (now (slots .entry)) used) (addition key info replace ∷ [])) (now (slots .entry)) ⌝ }

@@ -10,6 +10,7 @@ use borrow.Author.Tests.{ne-eqb, eqb-true, eqb-false}
 use lib.ListN.{length, getD, List·getD-append}
 use lib.Seq.{getD-append-add}
 use lib.Dec.{eqb}
+use Rattle.walk.specs.Lists.{every}
 use Rattle.walk.specs.Outcome.{Outcome, answered, outcomeWords}
 use Rattle.usn_record.specs.Bytes.{le, leAt}
 use Rattle.utf16.specs.Utf16.{alone, codePoints, unitsAt}
@@ -119,10 +120,10 @@ says n room u e =
 
 -- 256 names under 5:5 begin with the root
 pub nested-256 : pathSays (nestedTable 256) (lastKey 256) 513 ≡ 0 ∷ 0x2E ∷ timesA 256
-unfolding climbed nested timesA rows inside allInside pathText endText keyText stepText placeText digits decoded codePoints alone utf8 unitsAt leAt le
+unfolding climbed nested timesA rows inside every pathText endText keyText stepText placeText digits decoded codePoints alone utf8 unitsAt leAt le
 nested-256 = says 256 513 (le-refl 256) refl ∙ refl
 
 -- 257 names begin with UNRESOLVED(5:5)
 pub nested-257 : pathSays (nestedTable 257) (lastKey 257) 529 ≡ 0 ∷ (unresolvedWord ++ (0x35 ∷ 0x3A ∷ 0x35 ∷ 0x29 ∷ timesA 257))
-unfolding climbed nested timesA rows inside allInside pathText endText keyText stepText placeText digits decoded codePoints alone utf8 unitsAt leAt le
+unfolding climbed nested timesA rows inside every pathText endText keyText stepText placeText digits decoded codePoints alone utf8 unitsAt leAt le
 nested-257 = says 257 529 (le-refl 257) refl ∙ refl

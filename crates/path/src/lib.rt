@@ -5,7 +5,7 @@
 //
 // Every function here is proved. No call has a `requires`: any table, key and place get an answer. Of journal and image the
 // lengths decide all but the text and whether it fits.
-mod text;
+pub mod text;
 
 ghost use mathlib.Core.Path.{_≡_};
 ghost use lib.ListN.{length};

@@ -109,13 +109,7 @@ pub(crate) fn put_place(
 }
 
 // A backslash and the name at a place.
-pub(crate) fn put_step(
-    journal: &[u8],
-    image: &[u8],
-    place: NamePlace,
-    text: &mut [u8],
-    at: usize,
-) -> usize
+pub fn put_step(journal: &[u8], image: &[u8], place: NamePlace, text: &mut [u8], at: usize) -> usize
     requires { ⌜ inside (lengthsOf (now journal) (now image)) place ≡ true ⌝ }
     requires { ⌜ at + length (stepText (now journal) (now image) place) ≤ length (now text) ⌝ }
     ensures { λ r. ⌜ r ≡ at + length (stepText (now (journal .entry)) (now (image .entry)) place) ⌝ }
@@ -181,8 +175,17 @@ pub(crate) fn put_names(
     }
 }
 
-// How many bytes a key's path takes, of which the end is known.
-pub(crate) fn path_length(
+// How many bytes a backslash and the name at a place take: few enough for any sum.
+pub fn step_length(journal: &[u8], image: &[u8], place: NamePlace) -> usize
+    requires { ⌜ inside (lengthsOf (now journal) (now image)) place ≡ true ⌝ }
+    requires { ⌜ (length (now journal) ≤ domain) × (length (now image) ≤ domain) ⌝ }
+    ensures { λ r. ⌜ (r ≡ length (stepText (now (journal .entry)) (now (image .entry)) place)) × (r < 2 ^ 62) ⌝ }
+{
+    1 + place_length(journal, image, place)
+}
+
+// How many bytes a key's path takes, of which the end is known: few enough for any sum.
+pub fn path_length(
     journal: &[u8],
     image: &[u8],
     slots: &[u64],
@@ -195,13 +198,13 @@ pub(crate) fn path_length(
     requires { ⌜ allInside (lengthsOf (now journal) (now image)) (namesIn (now slots) used) ≡ true ⌝ }
     requires { ⌜ (length (now journal) ≤ domain) × (length (now image) ≤ domain) × (levels ≤ deepest + 1) ⌝ }
     requires { ⌜ end ≡ chain (table (now slots) used) levels key .end ⌝ }
-    ensures { λ r. ⌜ r ≡ length (pathText (now (journal .entry)) (now (image .entry)) (chain (table (now (slots .entry)) used) levels key)) ⌝ }
+    ensures { λ r. ⌜ (r ≡ length (pathText (now (journal .entry)) (now (image .entry)) (chain (table (now (slots .entry)) used) levels key))) × (r < 2 ^ 63) ⌝ }
 {
     end_length(end) + names_length(journal, image, slots, used, key, levels)
 }
 
 // A key's path, of which the end is known, at the front of a text, which has room for it.
-pub(crate) fn put_path(
+pub fn put_path(
     journal: &[u8],
     image: &[u8],
     slots: &[u64],

@@ -118,3 +118,25 @@ listed-inside s o =
 
 pub listed-name : (s : List ℕ) (o : ℕ) {r : UsnRecord} → answered r ≡ listed s o → r .filename .offset + r .filename .length ≤ leAt 4 s o
 listed-name s o e = rw (sym e) at (listed-inside s o)
+
+-- and the record in the journal
+abbrev Whole : List ℕ → ℕ → Outcome UsnRecord → Type 0
+Whole s o (refused m) = Unit {0}
+Whole s o (answered r) = o + leAt 4 s o ≤ length s
+
+as-whole : (s : List ℕ) (o : ℕ) (x : Outcome UsnRecord) → o + leAt 4 s o ≤ length s → Whole s o (asListed x)
+as-whole s o (refused m) h = tt
+as-whole s o (answered r) h = h
+
+listed-ends : (s : List ℕ) (o : ℕ) → Whole s o (listed s o)
+unfolding listed
+listed-ends s o =
+    let n = leAt 4 s o in
+    let P : Outcome UsnRecord → Type 0 = Whole s o in
+    cond-cases P (ltb (length s) (o + 8)) (λ _. tt) λ _.
+    cond-cases P (ltb (length s) (o + n)) (λ _. tt) λ e.
+    cond-cases P (eqb (leAt 2 s (o + 4)) 2) (λ _. as-whole s o (parsed v2 (part s o n)) (ltb-false _ _ e)) λ _.
+    cond-cases P (eqb (leAt 2 s (o + 4)) 3) (λ _. as-whole s o (parsed v3 (part s o n)) (ltb-false _ _ e)) λ _. tt
+
+pub listed-whole : (s : List ℕ) (o : ℕ) {r : UsnRecord} → answered r ≡ listed s o → o + leAt 4 s o ≤ length s
+listed-whole s o e = rw (sym e) at (listed-ends s o)

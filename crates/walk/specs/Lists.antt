@@ -1,6 +1,7 @@
--- A lent list that takes results, each as a row of words, from its front on.
+-- A lent list that takes results, each as a row of words, from its front on; and a test of every element of a list.
 use Prim.Native.Nat.{ℕ}
 use mathlib.Core.List.{List, [], _∷_, _++_}
+use mathlib.Core.Bool.{Bool, true, _&&_}
 use lib.ListN.{length, drop}
 use Rattle.walk.specs.Outcome.{Outcome, refused, answered}
 use Rattle.walk.specs.declared.Place.{Place}
@@ -22,3 +23,8 @@ overwrite l vs = vs ++ drop (length vs) l
 abbrev pub listAfter : {A : Type 0} → (A → List ℕ) → Outcome A → List ℕ → List ℕ
 listAfter words (refused n) l = l
 listAfter words (answered a) l = overwrite l (words a)
+
+-- a test holds of every element
+unfoldable pub every : {A : Type 0} → (A → Bool) → List A → Bool
+every test [] = true
+every test (x ∷ xs) = test x && every test xs

@@ -6,18 +6,19 @@ use Prim.Native.Nat.{_-_}
 use native.Mathlib.Omega.{arith}
 use borrow.Author.Needs.{needs}
 use Rattle.entry_table.specs.Table.{table}
-use Rattle.entry_table.proofs.SeedLaws.{Seeding, seeding-start, seeding-next, seeding-refused, seeding-end}
+use Rattle.entry_table.specs.Carved.{carvedAt}
+use Rattle.entry_table.proofs.AdditionLaws.{AddingRows, rows-start, rows-added, rows-refused, rows-added-all, same-addition}
 use Rattle.entry_table.proofs.carved.add_carved.Statement.{statement}
 use Rattle.entry_table.proofs.carved.add_carved.Tie as tie
 
 abbrev Inv-loop : tie.InvT-loop
-Inv-loop slots₀ used entries count now-used₀ i₀ slots now-used i = Seeding (table slots₀ used) (table slots now-used) entries i
+Inv-loop slots₀ used entries count now-used₀ i₀ slots now-used i = AddingRows (table slots₀ used) (table slots now-used) (carvedAt entries) count i
 
 abbrev μ-loop : tie.MeasureT-loop
 μ-loop slots₀ used entries count now-used₀ i₀ slots now-used i = count - i
 
 loop-holds : tie.Need-loop-holds Inv-loop μ-loop
-loop-holds c = seeding-start _ _ (c .before .before .pre)
+loop-holds c = rows-start _ _ _ (c .before .before .pre)
 
 carved-key-requires : tie.Need-carved-key-requires Inv-loop μ-loop
 carved-key-requires c κs = omega arith
@@ -35,10 +36,10 @@ enum-known-n-2 : tie.Need-enum-known-n-2 Inv-loop μ-loop
 enum-known-n-2 c = search needs
 
 same-length : tie.Need-same-length Inv-loop μ-loop
-same-length c = absurd (seeding-refused (c .before .before .before .before .before .before .before .before .before .before .loop .inv) (c .before .before .before .before .before .before .before .before .before .loop-test .taken) (c .before .before .before .before .before .before .before .before .carved-key .ensures) (c .before .before .before .before .before .before .before .carved-info .ensures) (c .before .before .before .before .before .add .ensures .0) (ap outcome (c .before .n2 .given .1)))
+same-length c = absurd (rows-refused (c .before .before .before .before .before .before .before .before .before .before .loop .inv) (c .before .before .before .before .before .before .before .before .before .loop-test .taken) (same-addition (c .before .before .before .before .before .before .before .before .carved-key .ensures) (c .before .before .before .before .before .before .before .carved-info .ensures) refl) (c .before .before .before .before .before .add .ensures .0) (ap outcome (c .before .n2 .given .1)))
 
 returns : tie.Need-returns Inv-loop μ-loop
-returns c = absurd (seeding-refused (c .before .before .before .before .before .before .before .before .before .before .loop .inv) (c .before .before .before .before .before .before .before .before .before .loop-test .taken) (c .before .before .before .before .before .before .before .before .carved-key .ensures) (c .before .before .before .before .before .before .before .carved-info .ensures) (c .before .before .before .before .before .add .ensures .0) (ap outcome (c .before .n2 .given .1)))
+returns c = absurd (rows-refused (c .before .before .before .before .before .before .before .before .before .before .loop .inv) (c .before .before .before .before .before .before .before .before .before .loop-test .taken) (same-addition (c .before .before .before .before .before .before .before .before .carved-key .ensures) (c .before .before .before .before .before .before .before .carved-info .ensures) refl) (c .before .before .before .before .before .add .ensures .0) (ap outcome (c .before .n2 .given .1)))
 
 add-i : tie.Need-add-i Inv-loop μ-loop
 add-i c = omega arith
@@ -47,13 +48,13 @@ loop-less : tie.Need-loop-less Inv-loop μ-loop
 loop-less c = omega arith
 
 loop-again : tie.Need-loop-again Inv-loop μ-loop
-loop-again c = seeding-next (c .before .before .before .before .before .before .before .before .before .before .loop .inv) (c .before .before .before .before .before .before .before .before .before .loop-test .taken) (c .before .before .before .before .before .before .before .before .carved-key .ensures) (c .before .before .before .before .before .before .before .carved-info .ensures) (c .before .before .before .before .before .add .ensures .0) (ap outcome (c .before .n .given .1)) (c .before .before .before .before .before .add .ensures .1)
+loop-again c = rows-added (c .before .before .before .before .before .before .before .before .before .before .loop .inv) (c .before .before .before .before .before .before .before .before .before .loop-test .taken) (same-addition (c .before .before .before .before .before .before .before .before .carved-key .ensures) (c .before .before .before .before .before .before .before .carved-info .ensures) refl) (c .before .before .before .before .before .add .ensures .0) (ap outcome (c .before .n .given .1)) (c .before .before .before .before .before .add .ensures .1)
 
 same-length-2 : tie.Need-same-length-2 Inv-loop μ-loop
 same-length-2 c = c .before .loop .inv .rest .same
 
 returns-2 : tie.Need-returns-2 Inv-loop μ-loop
-returns-2 c = comes-out _ (seeding-end (c .before .loop .inv) (c .loop-test .left) (c .before .before .before .before .pre)) refl refl
+returns-2 c = comes-out _ (rows-added-all (c .before .loop .inv) (c .loop-test .left) (c .before .before .before .before .pre)) refl refl
 
 pub add-carved-spec : {M : Type 1} → statement M
 add-carved-spec =

@@ -2,14 +2,14 @@
 use Prim.Native.Nat.{_-_}
 use native.Mathlib.Omega.{arith}
 use borrow.Author.Tests.{not-true, not-false}
-use Rattle.entry_table.specs.Names.{lengths}
+use Rattle.entry_table.specs.Names.{lengths, inside}
 use Rattle.entry_table.specs.Carved.{carvedName}
 use Rattle.entry_table.proofs.NameLaws.{Passing, passing-start, passing-row, passing-outside, passing-end, carved-names}
 use Rattle.entry_table.proofs.carved.carved_inside.Statement.{statement}
 use Rattle.entry_table.proofs.carved.carved_inside.Tie as tie
 
 abbrev Inv-loop : tie.InvT-loop
-Inv-loop entries journal-length image-length count i₀ i = Passing (lengths journal-length image-length) (carvedName entries) i count
+Inv-loop entries journal-length image-length count i₀ i = Passing (inside (lengths journal-length image-length)) (carvedName entries) i count
 
 abbrev μ-loop : tie.MeasureT-loop
 μ-loop entries journal-length image-length count i₀ i = count - i

@@ -3,12 +3,13 @@ use Prim.Native.Nat.{_-_}
 use native.Mathlib.Omega.{arith}
 use borrow.Author.Needs.{needs}
 use Rattle.entry_table.specs.Table.{table}
-use Rattle.entry_table.proofs.SeedLaws.{Looking, looking-start, looking-table, looking-next, looking-found, looking-end}
+use Rattle.entry_table.specs.Carved.{carvedKey}
+use Rattle.entry_table.proofs.AdditionLaws.{Looking, looking-start, looking-table, looking-next, looking-found, looking-end}
 use Rattle.entry_table.proofs.carved.is_seen.Statement.{statement}
 use Rattle.entry_table.proofs.carved.is_seen.Tie as tie
 
 abbrev Inv-loop : tie.InvT-loop
-Inv-loop slots used entries i key j₀ j = Looking (table slots used) entries key j i
+Inv-loop slots used entries i key j₀ j = Looking (table slots used) (carvedKey entries) key j i
 
 abbrev μ-loop : tie.MeasureT-loop
 μ-loop slots used entries i key j₀ j = i - j

@@ -4,18 +4,19 @@ use mathlib.Core.Logic.{⊎-elim}
 use Prim.Native.Nat.{_-_}
 use native.Mathlib.Omega.{arith}
 use Rattle.entry_table.specs.Table.{table}
-use Rattle.entry_table.proofs.SeedLaws.{Counting, counting-start, counting-new, counting-known, counting-end}
+use Rattle.entry_table.specs.Carved.{carvedAt}
+use Rattle.entry_table.proofs.AdditionLaws.{Counting, counting-start, counting-new, counting-known, counting-end}
 use Rattle.entry_table.proofs.carved.new_keys.Statement.{statement}
 use Rattle.entry_table.proofs.carved.new_keys.Tie as tie
 
 abbrev Inv-loop : tie.InvT-loop
-Inv-loop slots used entries count n₀ i₀ n i = Counting (table slots used) entries n i
+Inv-loop slots used entries count n₀ i₀ n i = Counting (table slots used) (carvedAt entries) count n i
 
 abbrev μ-loop : tie.MeasureT-loop
 μ-loop slots used entries count n₀ i₀ n i = count - i
 
 loop-holds : tie.Need-loop-holds Inv-loop μ-loop
-loop-holds c = counting-start _ _
+loop-holds c = counting-start _ _ _
 
 carved-key-requires : tie.Need-carved-key-requires Inv-loop μ-loop
 carved-key-requires c κs = omega arith

@@ -27,7 +27,15 @@ add-result c =
 
 returns : tie.Need-returns
 returns c =
-    omega (arith, c .names-length .ensures, c .before .end-length .ensures .0, path-long (c .before .before .before .before .before .args .journal .now) (c .before .before .before .before .before .args .image .now) (table (c .before .before .before .before .before .args .slots .now) (c .before .before .before .before .before .args .used)) (c .before .before .before .before .before .args .levels) (c .before .before .before .before .before .args .key) (c .before .before .before .before .before .pre .1 .1 .1))
+    let q = c .before .before .before .before .before .pre in
+    let w : Sources (c .before .before .before .before .before .args .journal .now) (c .before .before .before .before .before .args .image .now) =
+    record {
+      journalLong = q .1 .1 .0 .0;
+      imageLong = q .1 .1 .0 .1;
+      journalBytes = λ i. omega (arith, c .before .before .before .before .shared-slice-known .given i);
+      imageBytes = λ i. omega (arith, c .before .before .before .shared-slice-known2 .given i);
+    } in
+    (omega (arith, c .names-length .ensures, c .before .end-length .ensures .0, path-long (c .before .before .before .before .before .args .journal .now) (c .before .before .before .before .before .args .image .now) (table (c .before .before .before .before .before .args .slots .now) (c .before .before .before .before .before .args .used)) (c .before .before .before .before .before .args .levels) (c .before .before .before .before .before .args .key) (c .before .before .before .before .before .pre .1 .1 .1)), omega (arith, c .names-length .ensures, c .before .end-length .ensures .1, q .1 .1 .0 .2, names-most (c .before .before .before .before .before .args .journal .now) (c .before .before .before .before .before .args .image .now) (table (c .before .before .before .before .before .args .slots .now) (c .before .before .before .before .before .args .used)) w (q .1 .0) (c .before .before .before .before .before .args .levels) (c .before .before .before .before .before .args .key)))
 
 pub path-length-spec : {M : Type 1} → statement M
 path-length-spec =
