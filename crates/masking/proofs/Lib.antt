@@ -1,3 +1,4 @@
 pub mod CallLaws
 pub mod EnvironmentLaws
 pub mod ReplayLaws
+pub mod Demand
