@@ -2,3 +2,4 @@ pub mod CallLaws
 pub mod EnvironmentLaws
 pub mod ReplayLaws
 pub mod Demand
+pub mod Examples
