@@ -5,10 +5,10 @@ use mathlib.Core.Path.{_≡_, refl, sym, ap, _∙_}
 use mathlib.Core.List.{List, [], _∷_, _++_, List·Memᴰ·cases-cons, List·Memᴰ·not-nil}
 use mathlib.Core.Logic.{⊎-elim}
 use native.Mathlib.Omega.{arith}
-use lib.ListN.{length, getD, replicate}
+use lib.ListN.{length, getD, take, drop, replicate}
 use lib.Seq.{take-all}
 use Rattle.walk.specs.Masked.{Masked, placesOf}
-use Rattle.walk.specs.Outcome.{Outcome, refused, answered}
+use Rattle.walk.specs.Outcome.{Outcome, refused, answered, mapOutcome}
 use Rattle.walk.specs.Places.{placeFrom}
 use Rattle.walk.specs.Refusals.{textFull}
 use Rattle.walk.specs.Walk.{walk, from}
@@ -18,6 +18,7 @@ use Rattle.usn_record.specs.Bytes.{le, leAt, leBytes}
 use Rattle.usn_record.specs.Fields.{timestampOf, referenceOf, filenameOf}
 use Rattle.usn_record.specs.Names.{nameAt}
 use Rattle.usn_record.specs.Record.{recordOf, parsed, listed}
+use Rattle.usn_record.specs.declared.UsnRecord.{UsnRecord}
 use Rattle.usn_record.specs.Sample.{createdFixed, sampleFixed, sampleRecord, recordE}
 use Rattle.usn_journal.specs.Scan.{kindByVersion, kindOf, visit, scanned}
 use Rattle.usn_journal.specs.Outcome.{scan}
@@ -41,7 +42,28 @@ use Rattle.mft_carver.specs.Entry.{hasSignature}
 use Rattle.mft_carver.specs.Entry.{judged as entryJudged}
 use Rattle.mft_carver.specs.Carve.{visit as imageVisit, carving as imageCarving}
 use Rattle.mft_carver.specs.Sample.{header, beforeName, abc, last}
-use Rattle.masking.specs.Demand.{imageNames, journalNames, scanPlaces, ScanShares, carverPlaces, CarverShares, windowPlaces, WindowShares}
+use Rattle.utf16.specs.Utf16.{alone, codePoints, unitsAt}
+use Rattle.utf16.specs.Utf8.{utf8}
+use Rattle.utf16.specs.Text.{decoded}
+use Rattle.entry_table.specs.Names.{inside, allInside}
+use Rattle.entry_table.specs.Slots.{sameKey, putAt, findFrom, rows}
+use Rattle.entry_table.specs.Table.{table, addFound, addAll}
+use Rattle.entry_table.specs.Storing.{newKeys, adding}
+use Rattle.entry_table.specs.declared.NamePlace.{NamePlace}
+use Rattle.chain.specs.Chain.{isRoot, chain}
+use Rattle.chain.specs.Tracing.{inDomain}
+use Rattle.chain.specs.Tracing.{listed as listedChain}
+use Rattle.path.specs.Text.{endText, placeText, stepText, pathText}
+use Rattle.path.specs.Telling.{placing, decoding}
+use Rattle.rewind.specs.Entries.{hasReason, entryFrom}
+use Rattle.rewind.specs.Environment.{allAnswered}
+use Rattle.rewind.specs.Environment.{refusalOf as rewindRefusal}
+use Rattle.rewind.specs.Starting.{starting}
+use Rattle.rewind.specs.Stepping.{turning}
+use Rattle.rewind.specs.Telling.{recordText}
+use Rattle.masking.specs.Calls.{sources, State, plain, nextText, start, startResult, nextResult, Done, results, struck, plainsOf, resultsOf}
+use Rattle.masking.specs.Calls as call
+use Rattle.masking.specs.Demand.{imageNames, journalNames, scanPlaces, SharedRecords, ScanShares, carverPlaces, CarverShares, windowPlaces, WindowShares}
 use Rattle.masking.proofs.Demand.{scan-demand, carver-demand, window-demand}
 
 -- run one's journal, a record named ab, and run two's, whose first unit is a euro sign, which takes two bytes more in UTF-8
@@ -145,3 +167,82 @@ module _ (b c : List ℕ) (eb : length b ≡ windowSize) (ec : length c ≡ wind
         carries = carries 7 journal b refl eb;
         carries′ = carries 8 journal′ c refl ec;
       })
+
+-- The text of the name, with room for two bytes: run one has it, and 8 refuses run two, whose text takes four.
+abbrev place : NamePlace
+place = record { source = 0; offset = 60; length = 4 }
+
+pub texts : (placeText journal (image abc) place ≡ 0x61 ∷ 0x62 ∷ []) × (placeText journal′ (image xyz) place ≡ 0xE2 ∷ 0x82 ∷ 0xAC ∷ 0x62 ∷ [])
+unfolding placeText decoded codePoints alone utf8 unitsAt leAt le
+texts = (refl, refl)
+
+pub decoded-in-one : (decoding journal (image abc) place 2 ≡ answered place) × (decoding journal′ (image xyz) place 2 ≡ refused textFull)
+unfolding placing inDomain inside placeText decoded codePoints alone utf8 unitsAt leAt le
+decoded-in-one = (refl, refl)
+
+-- So it is with a rewind, from empty tables of one slot: run one's next has room for the four bytes of its path, run two's is refused with 8 and asked
+-- again with more room.
+abbrev empty : State
+empty = record { first = table (replicate 7 0) 0; forward = table (replicate 7 9) 0; position = 0; chain = [] }
+
+abbrev one : List Done
+one = results (sources journal (image abc) (scanPlaces journal list)) (plain start ∷ nextText 4 ∷ []) empty
+
+abbrev two : List Done
+two = results (sources journal′ (image xyz) (scanPlaces journal′ list)) (plain start ∷ nextText 4 ∷ nextText 6 ∷ []) empty
+
+left-one : plainsOf (struck one) ≡ start ∷ call.next ∷ []
+unfolding scan scanned from walk visit kindOf kindByVersion startResult nextResult starting rewindRefusal turning adding addAll addFound putAt newKeys findFrom sameKey allAnswered allInside inside rows hasReason entryFrom chain isRoot listedChain recordText pathText endText stepText placeText decoded codePoints alone utf8 unitsAt listed parsed recordOf referenceOf filenameOf leAt le
+left-one = refl
+
+left-two : plainsOf (struck two) ≡ start ∷ call.next ∷ []
+unfolding scan scanned from walk visit kindOf kindByVersion startResult nextResult starting rewindRefusal turning adding addAll addFound putAt newKeys findFrom sameKey allAnswered allInside inside rows hasReason entryFrom chain isRoot listedChain recordText pathText endText stepText placeText decoded codePoints alone utf8 unitsAt listed parsed recordOf referenceOf filenameOf leAt le
+left-two = refl
+
+pub rewound : resultsOf (struck two) ≡ resultsOf (struck one)
+rewound = scan-runs .later .calls empty (plain start ∷ nextText 4 ∷ []) (plain start ∷ nextText 4 ∷ nextText 6 ∷ []) (left-two ∙ sym left-one)
+
+-- A record whose name begins at 40, inside the fixed part, where its reason stands: units replaced in that name make it another record, so that such a
+-- name is none of those that may differ.
+abbrev reasoned : ℕ → List ℕ
+reasoned reason = sampleFixed 60 125911584000000000 reason 0 4 40
+
+pub inside-listed : scanPlaces (reasoned 0x100) list ≡ record { offset = 0; length = 60 } ∷ []
+unfolding scan scanned from walk visit kindOf kindByVersion leAt le
+inside-listed = refl
+
+pub inside-name : mapOutcome (λ (r : UsnRecord). r .filename) (listed (reasoned 0x100) 0) ≡ answered (record { offset = 40; length = 4 })
+unfolding listed parsed recordOf filenameOf leAt le
+inside-name = refl
+
+pub inside-left-out : journalNames (reasoned 0x100) (scanPlaces (reasoned 0x100) list) ≡ []
+unfolding scan scanned from walk visit kindOf kindByVersion nameAt listed parsed recordOf filenameOf leAt le
+inside-left-out = refl
+
+pub inside-masked : Masked (reasoned 0x100) (reasoned 0x1000) (record { offset = 40; length = 4 } ∷ [])
+inside-masked = masked-middle (take 40 (reasoned 0x100)) (leBytes 4 0x100) (leBytes 4 0x1000) (drop 44 (reasoned 0x100)) refl
+
+abbrev reasonOf : Outcome UsnRecord → ℕ
+reasonOf (refused n) = 0
+reasonOf (answered r) = r .reason
+
+reasons : (reasonOf (listed (reasoned 0x100) 0) ≡ 0x100) × (reasonOf (listed (reasoned 0x1000) 0) ≡ 0x1000)
+unfolding listed parsed recordOf leAt le
+reasons = (refl, refl)
+
+pub inside-matters : SharedRecords (reasoned 0x100) (reasoned 0x1000) (scanPlaces (reasoned 0x100) list) → ⊥
+inside-matters h =
+    let k : SharedRecords (reasoned 0x100) (reasoned 0x1000) (record { offset = 0; length = 60 } ∷ []) = rw inside-listed at h in
+    let e : _≡_ {A = ℕ} 0x1000 0x100 = sym (reasons .1) ∙ ap reasonOf (k .0) ∙ reasons .0 in
+    omega arith
+
+-- Two journals that differ in the name of a carved record alone, and what is carved differs: a carved version 2 record begins 8 bytes after a rejected
+-- version 3 candidate.
+pub record CarvedOtherwise : Type 0 where
+  pub first : List ℕ
+  pub second : List ℕ
+  pub masks : Masked first second (placesOf (nameOf first) (events standard first))
+  pub differs : events standard second ≡ events standard first → ⊥
+
+pub exception : CarvedOtherwise
+exception = record { first = _; second = _; masks = overlap-masked; differs = overlap-matters }
