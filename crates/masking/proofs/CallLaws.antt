@@ -1,25 +1,25 @@
 -- What holds of every call: a refused one leaves the state as it was, and 8 is the answer to a next with text alone. Assumes nothing.
 use Prim.Native.Nat.{ℕ}
-use mathlib.Core.Path.{_≡_, refl}
+use mathlib.Core.Path.{_≡_, refl, ap}
 use mathlib.Core.List.{List, _∷_}
-use mathlib.Core.Bool.{Bool, true, cond, not, _||_}
+use mathlib.Core.Bool.{true, not, false≢true, _||_}
 use native.Mathlib.Omega.{arith}
 use lib.Dec.{ltb, eqb}
 use borrow.Author.Tests.{eqb-true}
 use Rattle.walk.specs.Outcome.{Outcome, refused, answered, mapOutcome}
 use Rattle.walk.specs.Refusals.{textFull, domain}
 use Rattle.walk.proofs.ChoiceLaws.{cond-cases}
-use Rattle.entry_table.specs.Names.{Lengths, lengthsOf, allInside}
+use Rattle.entry_table.specs.Names.{Lengths, allInside}
 use Rattle.entry_table.specs.Slots.{slotsIn, namesIn}
-use Rattle.entry_table.specs.Table.{Table, known, Addition}
-use Rattle.entry_table.specs.Storing.{newKeys, keysOf, namesOf, adding, storing}
-use Rattle.rewind.specs.Environment.{Environment, environmentOf, allAnswered, refusalOf, tested}
-use Rattle.rewind.specs.Starting.{Tables, usedBackward, starting, started}
-use Rattle.rewind.specs.Stepping.{Next, ended, next, Step, turning, taken, stepping, stepped}
+use Rattle.entry_table.specs.Table.{Table, Addition}
+use Rattle.entry_table.specs.Storing.{namesOf, adding, storing}
+use Rattle.entry_table.specs.InTurn.{andThen}
+use Rattle.rewind.specs.Environment.{Environment, allAnswered, refusalOf, tested}
+use Rattle.rewind.specs.Starting.{Tables, usedBackward, starting}
+use Rattle.rewind.specs.Stepping.{Next, ended, next, Step, turning, taken, stepping}
 use Rattle.rewind.specs.Entries.{forward as forwardAddition}
-use Rattle.rewind.specs.Telling.{told}
 use Rattle.rewind.specs.declared.entries.RecordEntry.{RecordEntry}
-use Rattle.masking.specs.Calls.{Sources, State, Which, first, forward, Plain, insert, insertIfAbsent, seed, start, Call, plain, nextText, Answer, stored, startResult, nextResult, plainResult, resultOf, rewindOf, isStruck}
+use Rattle.masking.specs.Calls.{Sources, State, Which, first, forward, Plain, insert, insertIfAbsent, seed, start, Call, plain, nextText, Answer, stored, startResult, nextResult, plainResult, resultOf, isStruck}
 use Rattle.masking.specs.Calls as calls
 
 -- A refused call leaves every word of the tables and of the chain list, both numbers of used slots and the position as they were.
@@ -92,7 +92,7 @@ starting-not-full env t words =
     tested-not-full env t _
     (cond-cases NotFull (ltb (slotsIn (t .words)) (usedBackward env t) || ltb (slotsIn words) (usedBackward env t)) (λ _ e. omega arith) (λ _. tt))
 
-taken-not-full : (t : Table) (depth : ℕ) (x : Outcome (Next RecordEntry)) → NotFull x → NotFull (Rattle.entry_table.specs.InTurn.andThen x (taken t depth))
+taken-not-full : (t : Table) (depth : ℕ) (x : Outcome (Next RecordEntry)) → NotFull x → NotFull (andThen x (taken t depth))
 taken-not-full t depth (refused n) h = h
 taken-not-full t depth (answered ended) h = tt
 taken-not-full t depth (answered (next e)) h = mapped-not-full _ (adding t (forwardAddition e ∷ _)) (adding-not-full t _)
@@ -126,3 +126,16 @@ plain-other s calls.next st = next-not-full st _ (stepping-not-full _ _ _ _)
 -- No call without text is refused with 8.
 pub plain-not-full : (s : Sources) (p : Plain) (st : State) → plainResult s p st .outcome ≡ refused textFull → ⊥
 plain-not-full s p st = not-full-of (plainResult s p st .outcome) (plain-other s p st)
+
+-- So the calls that are struck out are those that 8 refused, and each leaves the state as it was.
+pub struck-full : (c : Call) (o : Outcome Answer) → isStruck c o ≡ true → o ≡ refused textFull
+struck-full (plain p) o e = absurd (false≢true e)
+struck-full (nextText room) (refused n) e = ap refused (eqb-true n textFull e)
+struck-full (nextText room) (answered a) e = absurd (false≢true e)
+
+pub full-struck : (s : Sources) (c : Call) (st : State) → resultOf s c st .outcome ≡ refused textFull → isStruck c (resultOf s c st .outcome) ≡ true
+full-struck s (plain p) st e = absurd (plain-not-full s p st e)
+full-struck s (nextText room) st e = rw e refl
+
+pub struck-stays : (s : Sources) (c : Call) (st : State) → isStruck c (resultOf s c st .outcome) ≡ true → resultOf s c st .after ≡ st
+struck-stays s c st e = refused-stays s c st (struck-full c (resultOf s c st .outcome) e)

@@ -1,7 +1,7 @@
 -- For each reader, one theorem: run two differs in names that run one got, and all but text is shared. The readers' own two runs give equal lists
 -- and records; over these the calls know the same. Assumes nothing.
-use Prim.Native.Nat.{ℕ, _≤_}
-use mathlib.Core.Path.{_≡_, refl, ap}
+use Prim.Native.Nat.{ℕ}
+use mathlib.Core.Path.{_≡_, ap}
 use mathlib.Core.List.{List, []}
 use native.Mathlib.Omega.{arith}
 use lib.ListN.{length}
@@ -18,7 +18,7 @@ use Rattle.mft_carver.specs.Settings.{standard as imageStandard}
 use Rattle.mft_carver.proofs.ImageTwoRuns.{call-two-runs as image-call}
 use Rattle.chain.proofs.TwoRuns.{chain-two-runs}
 use Rattle.path.proofs.TwoRuns.{path-two-runs, decode-two-runs}
-use Rattle.masking.specs.Calls.{Sources, sources}
+use Rattle.masking.specs.Calls.{sources}
 use Rattle.masking.specs.Demand.{imageNames, SharedImage, SharedRecords, Shared, scanPlaces, carverPlaces, windowPlaces, ScanDemand, CarverDemand, WindowDemand}
 use Rattle.masking.proofs.EnvironmentLaws.{environment-same}
 use Rattle.masking.proofs.ReplayLaws.{calls-same}

@@ -1,19 +1,17 @@
 -- What rewinds know of a journal and an image is the same in two runs whose sources are as long and whose listed records are the same.
 -- Assumes nothing.
-use Prim.Native.Nat.{ℕ, zero, suc, _+_, _*_, _/_}
+use Prim.Native.Nat.{ℕ, zero, suc, _+_, _*_}
 use mathlib.Core.Path.{_≡_, refl, ap, _∙_}
 use mathlib.Core.List.{List, [], _∷_, map}
 use native.Mathlib.Omega.{arith}
 use lib.ListN.{length, getD}
 use Rattle.walk.specs.Lists.{flatten, placeWords}
-use Rattle.walk.specs.Outcome.{Outcome}
 use Rattle.walk.specs.declared.Place.{Place}
 use Rattle.walk.proofs.WalkLaws.{All}
 use Rattle.usn_record.specs.Record.{listed}
 use Rattle.entry_table.specs.Slots.{rows}
-use Rattle.rewind.specs.Entries.{entryAt, entryFrom}
-use Rattle.rewind.specs.Environment.{Environment, environmentOf, offsetIn, offsetsIn, recordsIn}
-use Rattle.rewind.specs.declared.entries.RecordEntry.{RecordEntry}
+use Rattle.rewind.specs.Entries.{entryAt}
+use Rattle.rewind.specs.Environment.{environmentOf, offsetIn, offsetsIn, recordsIn}
 
 -- rows by another numbering that gives the same
 rows-shift : {A : Type 0} (f g : ℕ → A) → ((i : ℕ) → g (i + 1) ≡ f i) → (i n : ℕ) → rows g (i + 1) n ≡ rows f i n

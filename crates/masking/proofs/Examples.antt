@@ -1,5 +1,5 @@
--- For each reader two runs that really differ; calls over them of which 8 refuses one in run two alone; and why names inside a fixed part, and the
--- carver's exception, are left out. All computed. Assumes nothing.
+-- For each reader two runs that really differ; calls over them of which 8 refuses one in run two alone; and that the claim fails if names inside fixed
+-- parts may differ too, or without the carver's exception. All computed. Assumes nothing.
 use Prim.Native.Nat.{ℕ}
 use mathlib.Core.Path.{_≡_, refl, sym, ap, _∙_}
 use mathlib.Core.List.{List, [], _∷_, _++_, List·Memᴰ·cases-cons, List·Memᴰ·not-nil}
@@ -8,14 +8,14 @@ use native.Mathlib.Omega.{arith}
 use lib.ListN.{length, getD, take, drop, replicate}
 use lib.Seq.{take-all}
 use Rattle.walk.specs.Masked.{Masked, placesOf}
-use Rattle.walk.specs.Outcome.{Outcome, refused, answered, mapOutcome}
+use Rattle.walk.specs.Outcome.{Outcome, refused, answered}
 use Rattle.walk.specs.Places.{placeFrom}
 use Rattle.walk.specs.Refusals.{textFull}
 use Rattle.walk.specs.Walk.{walk, from}
 use Rattle.walk.specs.declared.Place.{Place}
 use Rattle.walk.proofs.MaskedLaws.{masked-middle}
 use Rattle.usn_record.specs.Bytes.{le, leAt, leBytes}
-use Rattle.usn_record.specs.Fields.{timestampOf, referenceOf, filenameOf}
+use Rattle.usn_record.specs.Fields.{referenceOf, filenameOf}
 use Rattle.usn_record.specs.Names.{nameAt}
 use Rattle.usn_record.specs.Record.{recordOf, parsed, listed}
 use Rattle.usn_record.specs.declared.UsnRecord.{UsnRecord}
@@ -23,11 +23,11 @@ use Rattle.usn_record.specs.Sample.{createdFixed, sampleFixed, sampleRecord, re
 use Rattle.usn_journal.specs.Scan.{kindByVersion, kindOf, visit, scanned}
 use Rattle.usn_journal.specs.Outcome.{scan}
 use Rattle.usn_carver.specs.Settings.{standard}
-use Rattle.usn_carver.specs.Events.{carved}
+use Rattle.usn_carver.specs.Events.{structure, rejected, carved}
 use Rattle.usn_carver.specs.Carve.{judged, visitAs, carving, events}
 use Rattle.usn_carver.specs.Carve.{visit as carverVisit}
 use Rattle.usn_carver.specs.Masking.{nameOf, NoOverlap, IfAnswered}
-use Rattle.usn_carver.proofs.Examples.{E-carved, overlap-masked, overlap-matters}
+use Rattle.usn_carver.proofs.Examples.{E-carved, overlap-first, overlap-masked}
 use Rattle.usn_reader.specs.Window.{windowSize, wrongEnd, wrongNumbers, refusalOf, wantedOf}
 use Rattle.usn_reader.specs.Rule.{namedFrom, byLength, turnOf, turns, searched}
 use Rattle.usn_reader.specs.Calls.{nextOf, giveRefusal, giveOf}
@@ -202,25 +202,32 @@ left-two = refl
 pub rewound : resultsOf (struck two) ≡ resultsOf (struck one)
 rewound = scan-runs .later .calls empty (plain start ∷ nextText 4 ∷ []) (plain start ∷ nextText 4 ∷ nextText 6 ∷ []) (left-two ∙ sym left-one)
 
--- A record whose name begins at 40, inside the fixed part, where its reason stands: units replaced in that name make it another record, so that such a
--- name is none of those that may differ.
+-- a list of bytes beside itself
+unchanged : (s : List ℕ) (ps : List Place) → Masked s s ps
+unchanged s ps = record { long = refl; same = λ i _. refl }
+
+-- A record whose name begins at 40, inside the fixed part, where its reason stands. Units replaced in that name make it another record: were names
+-- replaced wherever they begin, the records would not be shared.
 abbrev reasoned : ℕ → List ℕ
 reasoned reason = sampleFixed 60 125911584000000000 reason 0 4 40
 
-pub inside-listed : scanPlaces (reasoned 0x100) list ≡ record { offset = 0; length = 60 } ∷ []
+abbrev nameWherever : ℕ → Outcome UsnRecord → List Place
+nameWherever o (refused n) = []
+nameWherever o (answered r) = placeFrom o (r .filename) ∷ []
+
+abbrev wherever : List ℕ → List Place → List Place
+wherever journal places = placesOf (λ (p : Place). nameWherever (p .offset) (listed journal (p .offset))) places
+
+reasoned-listed : scanPlaces (reasoned 0x100) list ≡ record { offset = 0; length = 60 } ∷ []
 unfolding scan scanned from walk visit kindOf kindByVersion leAt le
-inside-listed = refl
+reasoned-listed = refl
 
-pub inside-name : mapOutcome (λ (r : UsnRecord). r .filename) (listed (reasoned 0x100) 0) ≡ answered (record { offset = 40; length = 4 })
-unfolding listed parsed recordOf filenameOf leAt le
-inside-name = refl
+reasoned-name : wherever (reasoned 0x100) (scanPlaces (reasoned 0x100) list) ≡ record { offset = 40; length = 4 } ∷ []
+unfolding scan scanned from walk visit kindOf kindByVersion listed parsed recordOf filenameOf leAt le
+reasoned-name = refl
 
-pub inside-left-out : journalNames (reasoned 0x100) (scanPlaces (reasoned 0x100) list) ≡ []
-unfolding scan scanned from walk visit kindOf kindByVersion nameAt listed parsed recordOf filenameOf leAt le
-inside-left-out = refl
-
-pub inside-masked : Masked (reasoned 0x100) (reasoned 0x1000) (record { offset = 40; length = 4 } ∷ [])
-inside-masked = masked-middle (take 40 (reasoned 0x100)) (leBytes 4 0x100) (leBytes 4 0x1000) (drop 44 (reasoned 0x100)) refl
+reasoned-masked : Masked (reasoned 0x100) (reasoned 0x1000) (wherever (reasoned 0x100) (scanPlaces (reasoned 0x100) list))
+reasoned-masked = rw reasoned-name (masked-middle (take 40 (reasoned 0x100)) (leBytes 4 0x100) (leBytes 4 0x1000) (drop 44 (reasoned 0x100)) refl)
 
 abbrev reasonOf : Outcome UsnRecord → ℕ
 reasonOf (refused n) = 0
@@ -230,19 +237,41 @@ reasons : (reasonOf (listed (reasoned 0x100) 0) ≡ 0x100) × (reasonOf (listed 
 unfolding listed parsed recordOf leAt le
 reasons = (refl, refl)
 
-pub inside-matters : SharedRecords (reasoned 0x100) (reasoned 0x1000) (scanPlaces (reasoned 0x100) list) → ⊥
-inside-matters h =
-    let k : SharedRecords (reasoned 0x100) (reasoned 0x1000) (record { offset = 0; length = 60 } ∷ []) = rw inside-listed at h in
+pub fixed-part-matters : ((journal journal′ image image′ list entries : List ℕ) → Masked image image′ (imageNames image entries)
+    → Masked journal journal′ (wherever journal (scanPlaces journal list)) → ScanShares journal journal′ image image′ list entries) → ⊥
+fixed-part-matters claim =
+    let shares = claim (reasoned 0x100) (reasoned 0x1000) [] [] list [] (unchanged [] (imageNames [] [])) reasoned-masked in
+    let k : SharedRecords (reasoned 0x100) (reasoned 0x1000) (record { offset = 0; length = 60 } ∷ []) = rw reasoned-listed at (shares .records) in
     let e : _≡_ {A = ℕ} 0x1000 0x100 = sym (reasons .1) ∙ ap reasonOf (k .0) ∙ reasons .0 in
     omega arith
 
--- Two journals that differ in the name of a carved record alone, and what is carved differs: a carved version 2 record begins 8 bytes after a rejected
--- version 3 candidate.
-pub record CarvedOtherwise : Type 0 where
-  pub first : List ℕ
-  pub second : List ℕ
-  pub masks : Masked first second (placesOf (nameOf first) (events standard first))
-  pub differs : events standard second ≡ events standard first → ⊥
+-- Two journals that differ in the name of a carved version 2 record, 8 bytes after a rejected version 3 candidate, and are carved differently: without
+-- its exception, the carver's places would not be shared.
+record Overlap : Type 0 where
+  first : List ℕ
+  second : List ℕ
+  masks : Masked first second (placesOf (nameOf first) (events standard first))
 
-pub exception : CarvedOtherwise
-exception = record { first = _; second = _; masks = overlap-masked; differs = overlap-matters }
+abbrev overlap : Overlap
+overlap = record { first = _; second = _; masks = overlap-masked }
+
+overlap-places : (carverPlaces (overlap .first) list ≡ record { offset = 8; length = 68 } ∷ [])
+    × (carverPlaces (overlap .second) list ≡ record { offset = 0; length = 80 } ∷ [])
+unfolding carving from walk carverVisit visitAs judged leAt le
+overlap-places = (refl, refl)
+
+overlap-carved : events standard (overlap .first) ≡ rejected structure 0 3 ∷ carved 8 2 68 ∷ []
+overlap-carved = overlap-first
+
+pub exception-matters : ((journal journal′ image image′ list entries : List ℕ) → Masked image image′ (imageNames image entries)
+    → Masked journal journal′ (journalNames journal (carverPlaces journal list)) → CarverShares journal journal′ image image′ list entries) → ⊥
+exception-matters claim =
+    let m : Masked (overlap .first) (overlap .second) (journalNames (overlap .first) (carverPlaces (overlap .first) list)) =
+    rw (overlap-places .0) (rw overlap-carved at (overlap .masks)) in
+    let shares = claim (overlap .first) (overlap .second) [] [] list [] (unchanged [] (imageNames [] [])) m in
+    let e : _≡_ {A = ℕ} 0 8 = ap firstOffset (sym (overlap-places .1) ∙ shares .places ∙ overlap-places .0) in
+    omega arith
+  where
+    firstOffset : List Place → ℕ
+    firstOffset [] = 0
+    firstOffset (p ∷ ps) = p .offset

@@ -3,7 +3,7 @@
 use Prim.Native.Nat.{ℕ}
 use mathlib.Core.Path.{_≡_, refl, sym, ap, _∙_}
 use mathlib.Core.List.{List, [], _∷_}
-use mathlib.Core.Bool.{Bool, true, false, cond}
+use mathlib.Core.Bool.{true, false}
 use mathlib.Core.Logic.{⊎-elim}
 use lib.Dec.{eqb}
 use Rattle.walk.specs.Outcome.{Outcome, refused, answered}
@@ -17,7 +17,7 @@ use Rattle.rewind.specs.Environment.{Environment, environmentOf}
 use Rattle.rewind.specs.Starting.{starting}
 use Rattle.rewind.specs.Stepping.{Next, Step, forwardTable, stepping, stepped}
 use Rattle.rewind.specs.Telling.{nextText as textOf}
-use Rattle.masking.specs.Calls.{Sources, State, tableOf, Plain, insert, insertIfAbsent, seed, start, next, Call, plain, nextText, Result, stored, startResult, nextResult, plainResult, resultOf, rewindOf, Done, results, isStruck, struck, plainsOf, resultsOf}
+use Rattle.masking.specs.Calls.{Sources, State, tableOf, Plain, insert, insertIfAbsent, seed, start, next, Call, plain, nextText, Result, stored, startResult, nextResult, plainResult, rewindOf, Done, results, struck, plainsOf, resultsOf}
 
 -- calls without text, one after the other
 abbrev pub replay : Sources → List Plain → State → List Result
