@@ -128,14 +128,14 @@ pub plain-not-full : (s : Sources) (p : Plain) (st : State) → plainResult s p 
 plain-not-full s p st = not-full-of (plainResult s p st .outcome) (plain-other s p st)
 
 -- So the calls that are struck out are those that 8 refused, and each leaves the state as it was.
+pub full-struck : (s : Sources) (c : Call) (st : State) → resultOf s c st .outcome ≡ refused textFull → isStruck c (resultOf s c st .outcome) ≡ true
+full-struck s (plain p) st e = absurd (plain-not-full s p st e)
+full-struck s (nextText room) st e = rw e refl
+
 pub struck-full : (c : Call) (o : Outcome Answer) → isStruck c o ≡ true → o ≡ refused textFull
 struck-full (plain p) o e = absurd (false≢true e)
 struck-full (nextText room) (refused n) e = ap refused (eqb-true n textFull e)
 struck-full (nextText room) (answered a) e = absurd (false≢true e)
-
-pub full-struck : (s : Sources) (c : Call) (st : State) → resultOf s c st .outcome ≡ refused textFull → isStruck c (resultOf s c st .outcome) ≡ true
-full-struck s (plain p) st e = absurd (plain-not-full s p st e)
-full-struck s (nextText room) st e = rw e refl
 
 pub struck-stays : (s : Sources) (c : Call) (st : State) → isStruck c (resultOf s c st .outcome) ≡ true → resultOf s c st .after ≡ st
 struck-stays s c st e = refused-stays s c st (struck-full c (resultOf s c st .outcome) e)

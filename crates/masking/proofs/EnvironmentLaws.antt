@@ -27,9 +27,11 @@ pub offsets-of : (ps : List Place) → offsetsIn (flatten placeWords ps) ≡ map
 unfolding rows
 offsets-of [] = refl
 offsets-of (p ∷ ps) =
-    let l = flatten placeWords (p ∷ ps) in
-    let n : recordsIn l ≡ suc (recordsIn (flatten placeWords ps)) = omega arith in
-    rw n (ap (λ (r : List ℕ). p .offset ∷ r) (rows-shift (offsetIn (flatten placeWords ps)) (offsetIn l) (λ i. next-offset (p .offset) (p .length) (flatten placeWords ps) i) 0 (recordsIn (flatten placeWords ps)) ∙ offsets-of ps))
+    let rest = flatten placeWords ps in
+    let l = p .offset ∷ p .length ∷ rest in
+    let n : recordsIn l ≡ suc (recordsIn rest) = omega arith in
+    let shifted = rows-shift (offsetIn rest) (offsetIn l) (next-offset (p .offset) (p .length) rest) 0 (recordsIn rest) in
+    rw n (ap (λ (r : List ℕ). p .offset ∷ r) (shifted ∙ offsets-of ps))
 
 module _ (journal journal′ : List ℕ) where
   -- the same records make the same entries

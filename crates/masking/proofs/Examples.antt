@@ -8,7 +8,7 @@ use native.Mathlib.Omega.{arith}
 use lib.ListN.{length, getD, take, drop, replicate}
 use lib.Seq.{take-all}
 use Rattle.walk.specs.Masked.{Masked, placesOf}
-use Rattle.walk.specs.Outcome.{Outcome, refused, answered}
+use Rattle.walk.specs.Outcome.{Outcome, refused, answered, listedBy}
 use Rattle.walk.specs.Places.{placeFrom}
 use Rattle.walk.specs.Refusals.{textFull}
 use Rattle.walk.specs.Walk.{walk, from}
@@ -211,12 +211,8 @@ unchanged s ps = record { long = refl; same = λ i _. refl }
 abbrev reasoned : ℕ → List ℕ
 reasoned reason = sampleFixed 60 125911584000000000 reason 0 4 40
 
-abbrev nameWherever : ℕ → Outcome UsnRecord → List Place
-nameWherever o (refused n) = []
-nameWherever o (answered r) = placeFrom o (r .filename) ∷ []
-
 abbrev wherever : List ℕ → List Place → List Place
-wherever journal places = placesOf (λ (p : Place). nameWherever (p .offset) (listed journal (p .offset))) places
+wherever journal places = placesOf (λ (p : Place). listedBy (λ (r : UsnRecord). placeFrom (p .offset) (r .filename) ∷ []) (listed journal (p .offset))) places
 
 reasoned-listed : scanPlaces (reasoned 0x100) list ≡ record { offset = 0; length = 60 } ∷ []
 unfolding scan scanned from walk visit kindOf kindByVersion leAt le

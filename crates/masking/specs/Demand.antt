@@ -87,7 +87,8 @@ pub record ScanShares (journal journal′ image image′ list entries : List ℕ
   pub later : Shared (sources journal image (scanPlaces journal list)) (sources journal′ image′ (scanPlaces journal′ list))
 
 abbrev pub ScanDemand : Type 0
-ScanDemand = (journal journal′ image image′ list entries : List ℕ) → ScanRuns journal journal′ image image′ list entries → ScanShares journal journal′ image image′ list entries
+ScanDemand = (journal journal′ image image′ list entries : List ℕ)
+    → ScanRuns journal journal′ image image′ list entries → ScanShares journal journal′ image image′ list entries
 
 -- The carver, with a list.
 abbrev pub carverPlaces : List ℕ → List ℕ → List Place
@@ -110,7 +111,8 @@ pub record CarverShares (journal journal′ image image′ list entries : List �
   pub later : Shared (sources journal image (carverPlaces journal list)) (sources journal′ image′ (carverPlaces journal′ list))
 
 abbrev pub CarverDemand : Type 0
-CarverDemand = (journal journal′ image image′ list entries : List ℕ) → CarverRuns journal journal′ image image′ list entries → CarverShares journal journal′ image image′ list entries
+CarverDemand = (journal journal′ image image′ list entries : List ℕ)
+    → CarverRuns journal journal′ image image′ list entries → CarverShares journal journal′ image image′ list entries
 
 -- The window, by any list of its calls from a fresh one of the journal's length: its list is what it gave, in order.
 abbrev pub windowPlaces : List ℕ → List ℕ → List WindowCall → List Place
