@@ -2,7 +2,7 @@
 -- parts may differ too, or without the carver's exception. All computed. Assumes nothing.
 use Prim.Native.Nat.{ℕ}
 use mathlib.Core.Path.{_≡_, refl, sym, ap, _∙_}
-use mathlib.Core.List.{List, [], _∷_, _++_, List·Memᴰ·cases-cons, List·Memᴰ·not-nil}
+use mathlib.Core.List.{List, [], _∷_, _++_, map, List·Memᴰ·cases-cons, List·Memᴰ·not-nil}
 use mathlib.Core.Logic.{⊎-elim}
 use native.Mathlib.Omega.{arith}
 use lib.ListN.{length, getD, take, drop, replicate}
@@ -61,7 +61,7 @@ use Rattle.rewind.specs.Environment.{refusalOf as rewindRefusal}
 use Rattle.rewind.specs.Starting.{starting}
 use Rattle.rewind.specs.Stepping.{turning}
 use Rattle.rewind.specs.Telling.{recordText}
-use Rattle.masking.specs.Calls.{sources, State, plain, nextText, start, startResult, nextResult, Done, results, struck, plainsOf, resultsOf}
+use Rattle.masking.specs.Calls.{sources, State, plain, nextText, start, Result, startResult, nextResult, Done, results, struck, plainsOf, resultsOf}
 use Rattle.masking.specs.Calls as call
 use Rattle.masking.specs.Demand.{imageNames, journalNames, scanPlaces, SharedRecords, ScanShares, carverPlaces, CarverShares, windowPlaces, WindowShares}
 use Rattle.masking.proofs.Demand.{scan-demand, carver-demand, window-demand}
@@ -199,6 +199,12 @@ left-two : plainsOf (struck two) ≡ start ∷ call.next ∷ []
 unfolding scan scanned from walk visit kindOf kindByVersion startResult nextResult starting rewindRefusal turning adding addAll addFound putAt newKeys findFrom sameKey allAnswered allInside inside rows hasReason entryFrom chain isRoot listedChain recordText pathText endText stepText placeText decoded codePoints alone utf8 unitsAt listed parsed recordOf referenceOf filenameOf leAt le
 left-two = refl
 
+-- in run one the start stands before the first record, and the next is past it
+pub positions : map (λ (r : Result). r .after .position) (resultsOf (struck one)) ≡ 0 ∷ 1 ∷ []
+unfolding scan scanned from walk visit kindOf kindByVersion startResult nextResult starting rewindRefusal turning adding addAll addFound putAt newKeys findFrom sameKey allAnswered allInside inside rows hasReason entryFrom chain isRoot listedChain recordText pathText endText stepText placeText decoded codePoints alone utf8 unitsAt listed parsed recordOf referenceOf filenameOf leAt le
+positions = refl
+
+-- and what is left of run two is the same, though it took a call more
 pub rewound : resultsOf (struck two) ≡ resultsOf (struck one)
 rewound = scan-runs .later .calls empty (plain start ∷ nextText 4 ∷ []) (plain start ∷ nextText 4 ∷ nextText 6 ∷ []) (left-two ∙ sym left-one)
 
