@@ -1,0 +1,5 @@
+pub mod CallLaws
+pub mod EnvironmentLaws
+pub mod ReplayLaws
+pub mod Demand
+pub mod Examples
