@@ -45,7 +45,7 @@ use Rattle.mft_carver.specs.Sample.{header, beforeName, abc, last}
 use Rattle.utf16.specs.Utf16.{alone, codePoints, unitsAt}
 use Rattle.utf16.specs.Utf8.{utf8}
 use Rattle.utf16.specs.Text.{decoded}
-use Rattle.entry_table.specs.Names.{inside, allInside}
+use Rattle.entry_table.specs.Names.{inside}
 use Rattle.entry_table.specs.Slots.{sameKey, putAt, findFrom, rows}
 use Rattle.entry_table.specs.Table.{table, addFound, addAll}
 use Rattle.entry_table.specs.Storing.{newKeys, adding}
@@ -56,7 +56,7 @@ use Rattle.chain.specs.Tracing.{listed as listedChain}
 use Rattle.path.specs.Text.{endText, placeText, stepText, pathText}
 use Rattle.path.specs.Telling.{placing, decoding}
 use Rattle.rewind.specs.Entries.{hasReason, entryFrom}
-use Rattle.rewind.specs.Environment.{allAnswered}
+use Rattle.walk.specs.Lists.{every}
 use Rattle.rewind.specs.Environment.{refusalOf as rewindRefusal}
 use Rattle.rewind.specs.Starting.{starting}
 use Rattle.rewind.specs.Stepping.{turning}
@@ -192,16 +192,16 @@ abbrev two : List Done
 two = results (sources journal′ (image xyz) (scanPlaces journal′ list)) (plain start ∷ nextText 4 ∷ nextText 6 ∷ []) empty
 
 left-one : plainsOf (struck one) ≡ start ∷ call.next ∷ []
-unfolding scan scanned from walk visit kindOf kindByVersion startResult nextResult starting rewindRefusal turning adding addAll addFound putAt newKeys findFrom sameKey allAnswered allInside inside rows hasReason entryFrom chain isRoot listedChain recordText pathText endText stepText placeText decoded codePoints alone utf8 unitsAt listed parsed recordOf referenceOf filenameOf leAt le
+unfolding scan scanned from walk visit kindOf kindByVersion startResult nextResult starting rewindRefusal turning adding addAll addFound putAt newKeys findFrom sameKey every inside rows hasReason entryFrom chain isRoot listedChain recordText pathText endText stepText placeText decoded codePoints alone utf8 unitsAt listed parsed recordOf referenceOf filenameOf leAt le
 left-one = refl
 
 left-two : plainsOf (struck two) ≡ start ∷ call.next ∷ []
-unfolding scan scanned from walk visit kindOf kindByVersion startResult nextResult starting rewindRefusal turning adding addAll addFound putAt newKeys findFrom sameKey allAnswered allInside inside rows hasReason entryFrom chain isRoot listedChain recordText pathText endText stepText placeText decoded codePoints alone utf8 unitsAt listed parsed recordOf referenceOf filenameOf leAt le
+unfolding scan scanned from walk visit kindOf kindByVersion startResult nextResult starting rewindRefusal turning adding addAll addFound putAt newKeys findFrom sameKey every inside rows hasReason entryFrom chain isRoot listedChain recordText pathText endText stepText placeText decoded codePoints alone utf8 unitsAt listed parsed recordOf referenceOf filenameOf leAt le
 left-two = refl
 
 -- in run one the start stands before the first record, and the next is past it
 pub positions : map (λ (r : Result). r .after .position) (resultsOf (struck one)) ≡ 0 ∷ 1 ∷ []
-unfolding scan scanned from walk visit kindOf kindByVersion startResult nextResult starting rewindRefusal turning adding addAll addFound putAt newKeys findFrom sameKey allAnswered allInside inside rows hasReason entryFrom chain isRoot listedChain recordText pathText endText stepText placeText decoded codePoints alone utf8 unitsAt listed parsed recordOf referenceOf filenameOf leAt le
+unfolding scan scanned from walk visit kindOf kindByVersion startResult nextResult starting rewindRefusal turning adding addAll addFound putAt newKeys findFrom sameKey every inside rows hasReason entryFrom chain isRoot listedChain recordText pathText endText stepText placeText decoded codePoints alone utf8 unitsAt listed parsed recordOf referenceOf filenameOf leAt le
 positions = refl
 
 -- and what is left of run two is the same, though it took a call more
