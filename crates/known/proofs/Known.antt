@@ -9,9 +9,10 @@ use borrow.Author.Tests.{eqb-true}
 use Rattle.usn_record.specs.Bytes.{le, leAt}
 use Rattle.usn_record.specs.Fields.{timestampOf, referenceOf, filenameOf}
 use Rattle.usn_record.specs.Record.{recordOf, parsed, listed, recordWords}
+use Rattle.walk.specs.Lists.{All}
 use Rattle.walk.specs.Walk.{walk, from}
 use Rattle.walk.proofs.ChoiceLaws.{and-left, and-right}
-use Rattle.walk.proofs.WalkLaws.{All, all-append}
+use Rattle.walk.proofs.WalkLaws.{all-append}
 use Rattle.usn_journal.specs.Scan.{kindByVersion, kindOf, visit, scanned}
 use Rattle.usn_journal.specs.Outcome.{scan}
 use Rattle.usn_carver.specs.Carve.{judged, visitAs, carving}

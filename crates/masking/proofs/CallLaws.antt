@@ -1,24 +1,21 @@
 -- What holds of every call: a refused one leaves the state as it was, and 8 is the answer to a next with text alone. Assumes nothing.
 use Prim.Native.Nat.{ℕ}
 use mathlib.Core.Path.{_≡_, refl, ap}
-use mathlib.Core.List.{List, _∷_}
-use mathlib.Core.Bool.{true, not, false≢true, _||_}
+use mathlib.Core.List.{List}
+use mathlib.Core.Bool.{true, not, false≢true}
 use native.Mathlib.Omega.{arith}
-use lib.Dec.{ltb, eqb}
+use lib.Dec.{ltb}
 use borrow.Author.Tests.{eqb-true}
 use Rattle.walk.specs.Outcome.{Outcome, refused, answered, mapOutcome}
-use Rattle.walk.specs.Refusals.{textFull, domain}
+use Rattle.walk.specs.Refusals.{textFull}
 use Rattle.walk.proofs.ChoiceLaws.{cond-cases}
 use Rattle.entry_table.specs.Names.{Lengths, allInside}
-use Rattle.entry_table.specs.Slots.{slotsIn, namesIn}
+use Rattle.entry_table.specs.Slots.{slotsIn}
 use Rattle.entry_table.specs.Table.{Table, Addition}
-use Rattle.entry_table.specs.Storing.{namesOf, adding, storing}
-use Rattle.entry_table.specs.InTurn.{andThen}
-use Rattle.rewind.specs.Environment.{Environment, allAnswered, refusalOf, tested}
-use Rattle.rewind.specs.Starting.{Tables, usedBackward, starting}
-use Rattle.rewind.specs.Stepping.{Next, ended, next, Step, turning, taken, stepping}
-use Rattle.rewind.specs.Entries.{forward as forwardAddition}
-use Rattle.rewind.specs.declared.entries.RecordEntry.{RecordEntry}
+use Rattle.entry_table.specs.Storing.{namesOf, storing}
+use Rattle.rewind.specs.Starting.{Tables}
+use Rattle.rewind.specs.Stepping.{Next, Step}
+use Rattle.rewind.proofs.TextLaws.{NotFull, not-full-of, adding-not-full, starting-not-full, stepping-not-full}
 use Rattle.masking.specs.Calls.{Sources, State, Which, first, forward, Plain, insert, insertIfAbsent, seed, start, Call, plain, nextText, Answer, stored, startResult, nextResult, plainResult, resultOf, isStruck}
 use Rattle.masking.specs.Calls as calls
 
@@ -50,56 +47,11 @@ pub refused-stays : (s : Sources) (c : Call) (st : State) {n : ℕ} → resultOf
 refused-stays s (plain p) st e = plain-stays s p st e
 refused-stays s (nextText room) st e = next-stays st _ e
 
--- an outcome that is not 8
-abbrev NotFull : {A : Type 0} → Outcome A → Type 0
-NotFull (refused n) = n ≡ textFull → ⊥
-NotFull (answered a) = Unit {0}
-
-not-full-of : {A : Type 0} (o : Outcome A) → NotFull o → o ≡ refused textFull → ⊥
-not-full-of (refused n) h e = h cc
-not-full-of (answered a) h e = let z : _≡_ {A = ℕ} 0 1 = cc in absurd (omega arith)
-
-mapped-not-full : {A B : Type 0} (f : A → B) (o : Outcome A) → NotFull o → NotFull (mapOutcome f o)
-mapped-not-full f (refused n) h = h
-mapped-not-full f (answered a) h = tt
-
-adding-not-full : (t : Table) (xs : List Addition) → NotFull (adding t xs)
-unfolding adding
-adding-not-full t xs = cond-cases NotFull (ltb (slotsIn (t .words)) _) (λ _ e. omega arith) (λ _. tt)
-
 storing-not-full : (ls : Lengths) (t : Table) (xs : List Addition) → NotFull (storing ls t xs)
 unfolding storing
 storing-not-full ls t xs =
     cond-cases NotFull (ltb (slotsIn (t .words)) (t .used)) (λ _ e. omega arith)
     (λ _. cond-cases NotFull (not (allInside ls (namesOf xs))) (λ _ e. omega arith) (λ _. adding-not-full t xs))
-
--- the refusals before a rewind's work are 1, 9, 12 and 7
-refusal-not-full : (env : Environment) (t : Table) → refusalOf env t ≡ textFull → ⊥
-unfolding refusalOf
-refusal-not-full env t =
-    let P : ℕ → Type 0 = λ n. n ≡ textFull → ⊥ in
-    cond-cases P (ltb domain (env .lengths .journal) || ltb domain (env .lengths .image)) (λ _ e. omega arith)
-    (λ _. cond-cases P (ltb (slotsIn (t .words)) (t .used)) (λ _ e. omega arith)
-    (λ _. cond-cases P (not (allAnswered (env .records))) (λ _ e. omega arith)
-    (λ _. cond-cases P (not (allInside (env .lengths) (namesIn (t .words) (t .used)))) (λ _ e. omega arith) (λ _ e. omega arith))))
-
-tested-not-full : {A : Type 0} (env : Environment) (t : Table) (o : Outcome A) → NotFull o → NotFull (tested env t o)
-tested-not-full env t o h = cond-cases NotFull (eqb (refusalOf env t) 0) (λ _. h) (λ _. refusal-not-full env t)
-
-starting-not-full : (env : Environment) (t : Table) (words : List ℕ) → NotFull (starting env t words)
-unfolding starting
-starting-not-full env t words =
-    tested-not-full env t _
-    (cond-cases NotFull (ltb (slotsIn (t .words)) (usedBackward env t) || ltb (slotsIn words) (usedBackward env t)) (λ _ e. omega arith) (λ _. tt))
-
-taken-not-full : (t : Table) (depth : ℕ) (x : Outcome (Next RecordEntry)) → NotFull x → NotFull (andThen x (taken t depth))
-taken-not-full t depth (refused n) h = h
-taken-not-full t depth (answered ended) h = tt
-taken-not-full t depth (answered (next e)) h = mapped-not-full _ (adding t (forwardAddition e ∷ _)) (adding-not-full t _)
-
-stepping-not-full : (env : Environment) (t : Table) (depth position : ℕ) → NotFull (stepping env t depth position)
-unfolding turning
-stepping-not-full env t depth position = taken-not-full t depth (turning env t position) (tested-not-full env t _ tt)
 
 stored-not-full : (w : Which) (st : State) (o : Outcome Table) → NotFull o → NotFull (stored w st o .outcome)
 unfolding stored

@@ -5,9 +5,8 @@ use mathlib.Core.Path.{_≡_, refl, ap, _∙_}
 use mathlib.Core.List.{List, [], _∷_, map}
 use native.Mathlib.Omega.{arith}
 use lib.ListN.{length, getD}
-use Rattle.walk.specs.Lists.{flatten, placeWords}
+use Rattle.walk.specs.Lists.{flatten, placeWords, All}
 use Rattle.walk.specs.declared.Place.{Place}
-use Rattle.walk.proofs.WalkLaws.{All}
 use Rattle.usn_record.specs.Record.{listed}
 use Rattle.entry_table.specs.Slots.{rows}
 use Rattle.rewind.specs.Entries.{entryAt}

@@ -31,9 +31,9 @@ use Rattle.usn_carver.proofs.Examples.{E-carved, overlap-first, overlap-masked}
 use Rattle.usn_reader.specs.Window.{windowSize, wrongEnd, wrongNumbers, refusalOf, wantedOf}
 use Rattle.usn_reader.specs.Rule.{namedFrom, byLength, turnOf, turns, searched}
 use Rattle.usn_reader.specs.Calls.{nextOf, giveRefusal, giveOf}
-use Rattle.usn_reader.specs.Run.{Call, next, give, giveOther, stateAfter, readingOf, givenBy, freshOver, AllCarry}
+use Rattle.usn_reader.specs.Run.{Call, next, give, giveOther, stateAfter, readingOf, givenBy, freshOver, AllCarry, shapes}
 use Rattle.usn_reader.specs.declared.Reading.{Reading}
-use Rattle.usn_reader.proofs.RunLaws.{journalReading, journalReadings, shapes, run-journal}
+use Rattle.usn_reader.proofs.RunLaws.{journalReading, journalReadings, run-journal}
 use Rattle.usn_reader.proofs.TwoRuns.{fresh-filled}
 use Rattle.mft_carver.specs.Filename.{replaces, keep}
 use Rattle.mft_carver.specs.Attributes.{given, attributeAt, filenameIn}

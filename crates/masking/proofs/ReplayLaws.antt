@@ -12,7 +12,8 @@ use Rattle.walk.proofs.ChoiceLaws.{cond-cases}
 use Rattle.entry_table.specs.Storing.{inserting}
 use Rattle.entry_table.specs.Carved.{seeding}
 use Rattle.chain.specs.Settings.{depth}
-use Rattle.path.proofs.TwoRuns.{Beside, with-text}
+use Rattle.path.specs.Alike.{Beside}
+use Rattle.path.proofs.TwoRuns.{with-text}
 use Rattle.rewind.specs.Environment.{Environment, environmentOf}
 use Rattle.rewind.specs.Starting.{starting}
 use Rattle.rewind.specs.Stepping.{Next, Step, forwardTable, stepping, stepped}

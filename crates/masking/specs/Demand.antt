@@ -6,9 +6,9 @@ use Prim.Native.Nat.{ℕ}
 use mathlib.Core.Path.{_≡_}
 use mathlib.Core.List.{List}
 use lib.ListN.{length}
+use Rattle.walk.specs.Lists.{All}
 use Rattle.walk.specs.Masked.{Masked, placesOf}
 use Rattle.walk.specs.declared.Place.{Place}
-use Rattle.walk.proofs.WalkLaws.{All}
 use Rattle.usn_record.specs.Record.{listed}
 use Rattle.usn_record.specs.Names.{nameAt}
 use Rattle.usn_journal.specs.Outcome.{scan, scanAnswer, scanList, listing}
@@ -16,9 +16,8 @@ use Rattle.usn_carver.specs.Settings.{standard}
 use Rattle.usn_carver.specs.Carve.{events, carving, carvingList}
 use Rattle.usn_carver.specs.Masking.{NoOverlap, IfAnswered, carvedRecords}
 use Rattle.usn_reader.specs.Window.{windowSize}
-use Rattle.usn_reader.specs.Run.{readings, givenBy, freshOver, AllCarry}
+use Rattle.usn_reader.specs.Run.{readings, givenBy, freshOver, AllCarry, shapes}
 use Rattle.usn_reader.specs.Run.{Call as WindowCall}
-use Rattle.usn_reader.proofs.RunLaws.{shapes}
 use Rattle.mft_carver.specs.Settings.{standard as imageStandard}
 use Rattle.mft_carver.specs.Carve.{carving as imageCarving, carvingList as imageList}
 use Rattle.mft_carver.specs.Masking.{carvedEntries, carvedNames}
@@ -27,8 +26,8 @@ use Rattle.entry_table.specs.Table.{Table}
 use Rattle.entry_table.specs.declared.EntryKey.{EntryKey}
 use Rattle.entry_table.specs.declared.NamePlace.{NamePlace}
 use Rattle.chain.specs.Tracing.{tracing, chainAfter}
+use Rattle.path.specs.Alike.{Alike}
 use Rattle.path.specs.Telling.{telling, placing, decoding}
-use Rattle.path.proofs.TwoRuns.{Alike}
 use Rattle.masking.specs.Calls.{Sources, sources, State, Call, results, struck, plainsOf, resultsOf}
 
 -- the names that the image carver of run one got with this list: those of the entries that it listed, none where it was refused

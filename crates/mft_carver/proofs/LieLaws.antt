@@ -7,9 +7,10 @@ use native.Mathlib.Omega.{arith}
 use lib.ListN.{length}
 use lib.Dec.{ltb, leb, eqb}
 use borrow.Author.Tests.{ltb-true, ltb-false, leb-true}
+use Rattle.walk.specs.Lists.{All}
 use Rattle.walk.specs.Walk.{Visit, stop, go, after, walk}
 use Rattle.walk.proofs.ChoiceLaws.{cond-cases, and-left, and-right, or-left, or-right}
-use Rattle.walk.proofs.WalkLaws.{All, Forward}
+use Rattle.walk.proofs.WalkLaws.{Forward}
 use Rattle.usn_record.specs.Bytes.{leAt}
 use Rattle.mft_carver.specs.Filename.{replaces, Attribute, other, named, keep, keepAll}
 use Rattle.mft_carver.specs.Attributes.{endMarker, fixed, Header, headerAt, Content, contentAt, isFilename, given, attributeAt, visit, attributesIn, filenameIn}

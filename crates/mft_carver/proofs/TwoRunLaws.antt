@@ -10,13 +10,14 @@ use native.Mathlib.Omega.{arith}
 use lib.ListN.{length, getD}
 use lib.Dec.{ltb, leb, eqb}
 use borrow.Author.Tests.{leb-true, leb-false}
+use Rattle.walk.specs.Lists.{All}
 use Rattle.walk.specs.Agree.{Agree}
 use Rattle.walk.specs.Masked.{Within, Apart, placesOf}
 use Rattle.walk.specs.Walk.{Visit, stop, go, after, walk}
 use Rattle.walk.specs.declared.Place.{Place}
 use Rattle.walk.proofs.ChoiceLaws.{cond-cases, cond-two}
 use Rattle.walk.proofs.MaskedLaws.{apart-append, apart-all, Same, Before, walk-same}
-use Rattle.walk.proofs.WalkLaws.{All, Forward}
+use Rattle.walk.proofs.WalkLaws.{Forward}
 use Rattle.usn_record.specs.Bytes.{leAt}
 use Rattle.usn_record.proofs.ByteLaws.{read-agree}
 use Rattle.mft_carver.specs.Filename.{replaces, Attribute, other, named, keep, keepAll}

@@ -1,12 +1,11 @@
 -- Two runs whose journals and images have equal lengths: only the text, and whether it fits, can differ. And a text that was too small can be
 -- made large enough. Assumes nothing.
-use Prim.Native.Nat.{ℕ}
+use Prim.Native.Nat.{ℕ, _≤_}
 use mathlib.Core.Path.{_≡_, refl}
 use mathlib.Core.List.{List}
 use mathlib.Core.Bool.{Bool, true, false, cond, not}
 use mathlib.Core.Logic.{_⊎_, inl, inr, ⊎-elim}
 use native.Mathlib.Omega.{arith}
-use native.Mathlib.Nat.{le-refl}
 use lib.ListN.{length}
 use lib.Dec.{ltb}
 use Rattle.walk.specs.Outcome.{Outcome, refused, answered}
@@ -20,12 +19,8 @@ use Rattle.chain.specs.Tracing.{inDomain, tracing}
 use Rattle.chain.proofs.TwoRuns.{core-refusals}
 use Rattle.path.specs.Text.{placeText, pathText}
 use Rattle.path.specs.Telling.{withText, telling, placing, decoding}
+use Rattle.path.specs.Alike.{Beside, Alike}
 use Rattle.path.proofs.CallLaws.{text-fits}
-
--- an outcome with text beside the one without: the same, or 8 where the one without is answered
-abbrev pub Beside : {A : Type 0} → Outcome A → Outcome A → Type 0
-Beside (refused n) o = o ≡ refused n
-Beside (answered a) o = (o ≡ answered a) ⊎ (o ≡ refused textFull)
 
 pub with-text : {A : Type 0} (text : A → List ℕ) (room : ℕ) (o : Outcome A) → Beside o (withText text room o)
 with-text text room (refused n) = refl
@@ -34,11 +29,6 @@ with-text text room (answered a) = go (ltb room (length (text a)))
     go : (b : Bool) → (cond b (refused textFull) (answered a) ≡ answered a) ⊎ (cond b (refused textFull) (answered a) ≡ refused textFull)
     go true = inr refl
     go false = inl refl
-
--- both runs' outcomes beside one that has no text
-pub record Alike {A : Type 0} (core o o′ : Outcome A) : Type 0 where
-  pub first : Beside core o
-  pub second : Beside core o′
 
 -- The path of a key, for any two texts: the same refusal among 1, 9 and 7, or the same chain, end and names, or 8.
 pub path-two-runs : (journal journal′ image image′ : List ℕ) (t : Table) (depth : ℕ) (k : EntryKey) (room room′ : ℕ)
@@ -66,17 +56,17 @@ place-refusals ls p {n} =
     (λ b. cond-cases P (not (inside ls p)) (λ y e. inr (cc))
     (λ i e. let z : _≡_ {A = ℕ} 0 1 = cc in absurd (omega arith))))
 
--- what is answered where a text is not too small
+-- what is answered where a text is large enough
 pub record Answers {A : Type 0} (text : A → List ℕ) (core : Outcome A) : Type 0 where
   pub answer : A
   pub answers : core ≡ answered answer
-  pub again : withText text (length (text answer)) core ≡ answered answer
+  pub again : (room : ℕ) → length (text answer) ≤ room → withText text room core ≡ answered answer
 
-retried : {A : Type 0} (text : A → List ℕ) (room : ℕ) (core : Outcome A) → (core ≡ refused textFull → ⊥) → withText text room core ≡ refused textFull → Answers text core
+pub retried : {A : Type 0} (text : A → List ℕ) (room : ℕ) (core : Outcome A) → (core ≡ refused textFull → ⊥) → withText text room core ≡ refused textFull → Answers text core
 retried text room (refused n) never e = absurd (never e)
-retried text room (answered a) never e = record { answer = a; answers = refl; again = text-fits text (length (text a)) refl (le-refl _) }
+retried text room (answered a) never e = record { answer = a; answers = refl; again = λ room h. text-fits text room refl h }
 
--- A path that 8 refused, repeated with a text of its path's length, is answered.
+-- A path that 8 refused, repeated with a text of at least its path's length, is answered.
 pub path-again : (journal image : List ℕ) (t : Table) (depth : ℕ) (k : EntryKey) (room : ℕ) → telling journal image t depth k room ≡ refused textFull
     → Answers (pathText journal image) (tracing (lengthsOf journal image) t depth k)
 path-again journal image t depth k room =

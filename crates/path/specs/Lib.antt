@@ -1,3 +1,4 @@
 pub mod Text
 pub mod Telling
+pub mod Alike
 pub mod Sample

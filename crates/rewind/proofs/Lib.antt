@@ -4,3 +4,4 @@ pub mod TurnLaws
 pub mod StartLaws
 pub mod TellLaws
 pub mod StepLaws
+pub mod TextLaws

@@ -4,10 +4,10 @@ use mathlib.Core.Path.{_≡_, refl, ap}
 use mathlib.Core.List.{List, [], _∷_, _++_}
 use native.Mathlib.Omega.{arith}
 use lib.ListN.{getD, replicate}
+use Rattle.walk.specs.Lists.{All}
 use Rattle.walk.specs.Masked.{Masked, placesOf}
 use Rattle.walk.specs.Outcome.{refused, answered}
 use Rattle.walk.specs.Walk.{walk, from}
-use Rattle.walk.proofs.WalkLaws.{All}
 use Rattle.walk.proofs.MaskedLaws.{masked-middle}
 use Rattle.usn_record.specs.Bytes.{le, leAt, leBytes}
 use Rattle.usn_record.specs.Fields.{filenameOf}

@@ -7,13 +7,14 @@ use mathlib.Core.Bool.{cond}
 use native.Mathlib.Omega.{arith}
 use lib.ListN.{length, take, drop}
 use lib.Dec.{eqb}
+use Rattle.walk.specs.Lists.{All}
 use Rattle.walk.specs.Outcome.{answered}
 use Rattle.walk.specs.Places.{part}
 use Rattle.walk.specs.Refusals.{domain}
 use Rattle.walk.specs.Walk.{from}
 use Rattle.walk.specs.declared.Place.{Place}
 use Rattle.walk.proofs.AgreeLaws.{part-lent}
-use Rattle.walk.proofs.WalkLaws.{All, Finds, walk-all}
+use Rattle.walk.proofs.WalkLaws.{Finds, walk-all}
 use Rattle.usn_record.specs.Bytes.{leAt}
 use Rattle.usn_record.specs.Layout.{Layout, layoutOf, v2, v3}
 use Rattle.usn_record.specs.Record.{maxRecord, parsed, recordOf, listed}

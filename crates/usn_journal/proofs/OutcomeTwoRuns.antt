@@ -4,13 +4,12 @@ use mathlib.Core.Path.{_≡_, refl, ap, _∙_}
 use mathlib.Core.List.{List, []}
 use lib.ListN.{length}
 use lib.Dec.{ltb, leb}
-use Rattle.walk.specs.Lists.{flatten, placeWords, listAfter}
+use Rattle.walk.specs.Lists.{flatten, placeWords, listAfter, All}
 use Rattle.walk.specs.Masked.{Masked, placesOf}
 use Rattle.walk.specs.Outcome.{Outcome, refused, answered, mapOutcome}
 use Rattle.walk.specs.Refusals.{domain}
 use Rattle.walk.specs.declared.Place.{Place}
 use Rattle.walk.proofs.ChoiceLaws.{cond-cases}
-use Rattle.walk.proofs.WalkLaws.{All}
 use Rattle.walk.proofs.MaskedLaws.{masked-none}
 use Rattle.usn_record.specs.Record.{listed}
 use Rattle.usn_record.specs.Names.{nameAt}

@@ -5,13 +5,14 @@ use mathlib.Core.Path.{_≡_, refl, ap}
 use mathlib.Core.List.{List, [], _∷_, _++_}
 use native.Mathlib.Omega.{arith}
 use lib.ListN.{length}
+use Rattle.walk.specs.Lists.{All}
 use Rattle.walk.specs.Agree.{Agree}
 use Rattle.walk.specs.Masked.{Apart, Masked, placesOf}
 use Rattle.walk.specs.Walk.{go, after, walk, from}
 use Rattle.walk.specs.declared.Place.{Place}
 use Rattle.walk.proofs.AgreeLaws.{agree-in}
 use Rattle.walk.proofs.MaskedLaws.{Same, Before, apart-append, walk-two-runs}
-use Rattle.walk.proofs.WalkLaws.{Forward, All, Finds}
+use Rattle.walk.proofs.WalkLaws.{Forward, Finds}
 use Rattle.usn_record.specs.Bytes.{leAt}
 use Rattle.usn_record.specs.Record.{listed}
 use Rattle.usn_record.specs.Names.{fixedOf, nameAt}

@@ -16,9 +16,9 @@ use Rattle.usn_reader.specs.Window.{windowSize, wrongEnd, wrongNumbers, 
 use Rattle.usn_reader.specs.Rule.{namedFrom, byLength, turnOf, turns, searched}
 use Rattle.usn_reader.specs.Calls.{nextOf, giveRefusal, giveOf, bufferAfter}
 use Rattle.usn_reader.specs.Journal.{stepAt, steps, toCome, windowList}
-use Rattle.usn_reader.specs.Run.{Call, next, give, State, readingOf, bufferOf, stateAfter, readings, givenBy, freshOver, AllCarry}
+use Rattle.usn_reader.specs.Run.{Call, next, give, State, readingOf, bufferOf, stateAfter, readings, givenBy, freshOver, AllCarry, shapes}
 use Rattle.usn_reader.specs.declared.Reading.{Reading}
-use Rattle.usn_reader.proofs.RunLaws.{journalReading, journalReadings, shapes, run-journal}
+use Rattle.usn_reader.proofs.RunLaws.{journalReading, journalReadings, run-journal}
 use Rattle.usn_reader.proofs.TwoRuns.{fresh-filled, window-two-runs}
 
 -- the record with another first unit in its name

@@ -8,7 +8,7 @@ use borrow.Author.Tests.{ne-eqb}
 use Rattle.usn_reader.specs.Window.{windowSize, refusalOf}
 use Rattle.usn_reader.specs.Rule.{Reads, bufferReads, journalReads}
 use Rattle.usn_reader.specs.Calls.{nextOf, giveRefusal, giveOf}
-use Rattle.usn_reader.specs.Run.{Call, next, give, nextOther, giveOther, State, Shape, asks, gives, shapeOf, readingOf, bufferOf, stateAfter, readings, Carries, AllCarry}
+use Rattle.usn_reader.specs.Run.{Call, next, give, nextOther, giveOther, State, Shape, asks, gives, shapeOf, readingOf, bufferOf, stateAfter, readings, Carries, AllCarry, shapes}
 use Rattle.usn_reader.specs.declared.UsnJournalReader.{UsnJournalReader}
 use Rattle.usn_reader.specs.declared.Reading.{Reading}
 use Rattle.usn_reader.proofs.WindowLaws.{sound-of}
@@ -45,11 +45,6 @@ call-journal s (giveOther b x) st f k = (refl, rw (other-give (length b) (length
 abbrev pub journalReadings : List ℕ → List Shape → UsnJournalReader → List Reading
 journalReadings s [] w = []
 journalReadings s (c ∷ cs) w = journalReading s c w ∷ journalReadings s cs (journalReading s c w .reader)
-
-abbrev pub shapes : List Call → List Shape
-shapes [] = []
-shapes (c ∷ cs) = shapeOf c ∷ shapes cs
-
 pub run-journal : (s : List ℕ) (cs : List Call) (st : State) → Filled s (st .buffer) (st .window) → AllCarry s cs st
     → readings cs st ≡ journalReadings s (shapes cs) (st .window)
 run-journal s [] st f k = refl

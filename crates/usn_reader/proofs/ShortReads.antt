@@ -9,10 +9,10 @@ use native.Mathlib.Omega.{arith}
 use lib.ListN.{length}
 use lib.Dec.{ltb, eqb}
 use borrow.Author.Tests.{eqb-true, eqb-false}
+use Rattle.walk.specs.Lists.{All}
 use Rattle.walk.specs.Refusals.{tooManyBytes}
 use Rattle.walk.specs.declared.Place.{Place}
 use Rattle.walk.proofs.ChoiceLaws.{cond-cases}
-use Rattle.walk.proofs.WalkLaws.{All}
 use Rattle.usn_reader.specs.Window.{windowSize, refusalOf, wantedOf, finished, fedBy, fresh}
 use Rattle.usn_reader.specs.Rule.{Reads, bufferReads, journalReads, reading, asking, searched}
 use Rattle.usn_reader.specs.Calls.{nextOf, giveRefusal, giveOf}

@@ -5,25 +5,26 @@ use mathlib.Core.Path.{_≡_, refl, sym, ap, _∙_}
 use mathlib.Core.List.{List, [], _∷_, _++_}
 use native.Mathlib.Omega.{arith}
 use lib.ListN.{length, getD}
+use Rattle.walk.specs.Lists.{All}
 use Rattle.walk.specs.Agree.{Agree}
 use Rattle.walk.specs.Masked.{Apart, Masked, placesOf}
 use Rattle.walk.specs.declared.Place.{Place}
 use Rattle.walk.proofs.AgreeLaws.{agree-in}
-use Rattle.walk.proofs.WalkLaws.{All, all-append}
+use Rattle.walk.proofs.WalkLaws.{all-append}
 use Rattle.walk.proofs.MaskedLaws.{Same, apart-append, places-append}
 use Rattle.usn_record.specs.Bytes.{leAt}
 use Rattle.usn_record.specs.Record.{listed}
 use Rattle.usn_record.specs.Names.{fixedOf, nameAt}
 use Rattle.usn_record.proofs.NameLaws.{fixed-low, listed-agrees, name-after-fixed, name-before-end}
 use Rattle.usn_reader.specs.Window.{windowSize}
-use Rattle.usn_reader.specs.Run.{Call, Shape, asks, gives, shapeOf, readings, placeOf, givenBy, freshOver, AllCarry}
+use Rattle.usn_reader.specs.Run.{Call, Shape, asks, gives, shapeOf, readings, placeOf, givenBy, freshOver, AllCarry, shapes}
 use Rattle.usn_reader.specs.declared.UsnJournalReader.{UsnJournalReader}
 use Rattle.usn_reader.specs.declared.Answer.{Answer}
 use Rattle.usn_reader.specs.declared.Answer.the-variants.{Record, Wants, End, Refused}
 use Rattle.usn_reader.specs.declared.Reading.{Reading}
 use Rattle.usn_reader.proofs.BufferLaws.{Filled}
 use Rattle.usn_reader.proofs.ReadLaws.{Good, good-up, reach, next-reads, next-good, give-good}
-use Rattle.usn_reader.proofs.RunLaws.{journalReading, journalReadings, shapes, run-journal}
+use Rattle.usn_reader.proofs.RunLaws.{journalReading, journalReadings, run-journal}
 
 module _ (s t : List ℕ) where
   abbrev names : List Place → List Place

@@ -67,6 +67,10 @@ shapeOf (give x) = gives windowSize (length x)
 shapeOf (nextOther b) = asks (length b)
 shapeOf (giveOther b x) = gives (length b) (length x)
 
+abbrev pub shapes : List Call → List Shape
+shapes [] = []
+shapes (c ∷ cs) = shapeOf c ∷ shapes cs
+
 -- the records that answers give, by their places in the stream
 abbrev pub placeOf : Answer → List Place
 placeOf (Record o n r) = record { offset = o; length = n } ∷ []

@@ -9,10 +9,11 @@ use lib.ListN.{length, getD, length-append, List·getD-append}
 use lib.Seq.{getD-append-add, ext-getD}
 use lib.Dec.{ltb}
 use borrow.Author.Tests.{ltb-true, ltb-false}
+use Rattle.walk.specs.Lists.{All}
 use Rattle.walk.specs.Walk.{Visit, stop, go, after, walk}
 use Rattle.walk.specs.Masked.{Within, Apart, Masked, placesOf}
 use Rattle.walk.specs.declared.Place.{Place}
-use Rattle.walk.proofs.WalkLaws.{All, Finds, all-append}
+use Rattle.walk.proofs.WalkLaws.{Finds, all-append}
 
 pub apart-append : (ps qs : List Place) (i : ℕ) → Apart ps i → Apart qs i → Apart (ps ++ qs) i
 apart-append [] qs i h k = k

@@ -5,6 +5,7 @@ use mathlib.Core.List.{List, [], _∷_, _++_}
 use native.Mathlib.Omega.{arith}
 use native.Mathlib.Nat.{mul-zero, mul-add}
 use lib.ListN.{length, length-append}
+use Rattle.walk.specs.Lists.{All}
 use Rattle.walk.specs.Walk.{Visit, stop, go, after, walk, from}
 
 -- a visit at o stops, or lies below bound and goes forward
@@ -88,10 +89,6 @@ module _ {A : Type 0} (visit visit′ : ℕ → Visit A) (G : ℕ → Type 0) (a
       ∙ ap (λ (v : Visit A). after v (walk visit′ k)) (agree o x)
 
 -- what holds of all that any visit finds holds of all that a walk finds
-abbrev pub All : {A : Type 0} → (A → Type 0) → List A → Type 0
-All P [] = Unit {0}
-All P (x ∷ xs) = P x × All P xs
-
 abbrev pub Finds : {A : Type 0} → (A → Type 0) → Visit A → Type 0
 Finds P stop = Unit {0}
 Finds P (go es p) = All P es
