@@ -8,24 +8,18 @@
 // lengths are used, so names decide nothing.
 pub mod places;
 pub mod steps;
+pub mod tracing;
 
 ghost use mathlib.Core.Path.{_≡_};
-ghost use Prim.Native.Nat.{_≤_};
 ghost use Rattle.walk.specs.Outcome.{mapOutcome};
-ghost use Rattle.entry_table.specs.Names.{lengths, lengthsOf};
+ghost use Rattle.entry_table.specs.Names.{lengthsOf};
 ghost use Rattle.entry_table.specs.Table.{table};
-ghost use Rattle.chain.specs.Settings.{depth, deepest};
+ghost use Rattle.chain.specs.Settings.{depth};
 ghost use Rattle.chain.specs.Chain.{resolved};
 ghost use Rattle.chain.specs.Tracing.{tracing, chainAfter, outcome};
 use crate::places::list_chain;
-use crate::steps::resolve;
+use crate::tracing::trace;
 use entry_table::EntryKey;
-use entry_table::names::all_inside;
-use entry_table::slots::STRIDE;
-use walk::ABOVE_DOMAIN;
-use walk::BAD_STATE;
-use walk::DOMAIN;
-use walk::NAME_OUTSIDE;
 
 // How many parents up from the key that is asked for a path is followed.
 pub const DEPTH: usize = 256;
@@ -70,31 +64,4 @@ pub fn path_chain(
             ChainAnswer::Resolved(path)
         }
     }
-}
-
-// Names and end of a path of any depth, with journal and image by their lengths.
-pub fn trace(
-    journal_length: usize,
-    image_length: usize,
-    slots: &[u64],
-    used: usize,
-    key: EntryKey,
-    depth: usize,
-) -> ChainAnswer
-    requires { ⌜ depth ≤ deepest ⌝ }
-    ensures { λ r. ⌜ outcome r ≡ mapOutcome resolved (tracing (lengths «journal_length» «image_length») (table (now (slots .entry)) used) depth key) ⌝ }
-{
-    if DOMAIN < journal_length {
-        return ChainAnswer::Refused(ABOVE_DOMAIN);
-    }
-    if DOMAIN < image_length {
-        return ChainAnswer::Refused(ABOVE_DOMAIN);
-    }
-    if slots.len() / STRIDE < used {
-        return ChainAnswer::Refused(BAD_STATE);
-    }
-    if !all_inside(slots, used, journal_length, image_length) {
-        return ChainAnswer::Refused(NAME_OUTSIDE);
-    }
-    ChainAnswer::Resolved(resolve(slots, used, key, depth + 1))
 }

@@ -25,7 +25,7 @@ use chain::ChainAnswer;
 use chain::DEPTH;
 use chain::ResolvedPath;
 use chain::places::list_chain;
-use chain::trace;
+use chain::tracing::trace;
 use entry_table::EntryKey;
 use entry_table::NamePlace;
 use entry_table::names::is_inside;

@@ -45,6 +45,7 @@ call-journal s (giveOther b x) st f k = (refl, rw (other-give (length b) (length
 abbrev pub journalReadings : List ℕ → List Shape → UsnJournalReader → List Reading
 journalReadings s [] w = []
 journalReadings s (c ∷ cs) w = journalReading s c w ∷ journalReadings s cs (journalReading s c w .reader)
+
 pub run-journal : (s : List ℕ) (cs : List Call) (st : State) → Filled s (st .buffer) (st .window) → AllCarry s cs st
     → readings cs st ≡ journalReadings s (shapes cs) (st .window)
 run-journal s [] st f k = refl

@@ -5,8 +5,8 @@ use borrow.Author.Tests.{not-true, not-false}
 use Rattle.walk.specs.Outcome.{answered, mapOutcome}
 use Rattle.chain.specs.Chain.{resolved}
 use Rattle.chain.proofs.CallLaws.{traced-journal, traced-image, traced-state, traced-outside, traced}
-use Rattle.chain.proofs.trace.Statement.{statement}
-use Rattle.chain.proofs.trace.Tie as tie
+use Rattle.chain.proofs.tracing.trace.Statement.{statement}
+use Rattle.chain.proofs.tracing.trace.Tie as tie
 
 returns : tie.Need-returns
 returns c = sym (ap (mapOutcome resolved) (traced-journal _ _ _ _ (c .if1 .taken)))
