@@ -1,9 +1,13 @@
+-- Too few words are refused first; otherwise the start's equations say what goes out.
+use denote.Ref.{now}
+use Rattle.usn_journal_reader.proofs.AnswerLaws.{out-same, out-mapped}
+use Rattle.volume_history.proofs.RewindLaws.{starts-short, starts-answered}
 use borrow.Author.Needs.{needs}
 use Rattle.volume_history.proofs.rewind_start.Statement.{statement}
 use Rattle.volume_history.proofs.rewind_start.Tie as tie
 
 returns : tie.Need-returns
-returns c = ?
+returns c = starts-short _ _ _ (now (c .before .before .before .before .before .before .before .args .out)) (c .if1 .taken)
 
 rewind-start-requires : tie.Need-rewind-start-requires
 rewind-start-requires c κs = search needs
@@ -21,7 +25,7 @@ same-length-3 : tie.Need-same-length-3
 same-length-3 c = search needs
 
 returns-2 : tie.Need-returns-2
-returns-2 c = ?
+returns-2 c = starts-answered _ _ _ (now (c .before .before .before .before .before .before .before .before .before .before .before .before .before .before .before .before .before .before .args .out)) (c .before .before .before .before .before .before .before .before .before .before .before .if1 .left) (c .before .before .before .before .before .before .before .before .rewind-start .ensures .1 .0) (c .before .before .before .before .before .before .before .before .rewind-start .ensures .1 .1) (out-mapped _ (out-same (record { answer = c .before .before .put-start .ensures .0; list = c .before .before .put-start .ensures .1 }) (c .before .before .before .before .before .before .before .before .rewind-start .ensures .0)))
 
 pub rewind-start-spec : {M : Type 1} → statement M
 rewind-start-spec =

@@ -1,3 +1,7 @@
+-- The state's words, or the refusal.
+use denote.Ref.{now}
+use Rattle.usn_journal_reader.proofs.AnswerLaws.{out-one}
+use Rattle.volume_history.proofs.RewindLaws.{start-answered}
 use borrow.Author.Needs.{needs}
 use Rattle.volume_history.proofs.rewinds.put_start.Statement.{statement}
 use Rattle.volume_history.proofs.rewinds.put_start.Tie as tie
@@ -21,7 +25,7 @@ same-length : tie.Need-same-length
 same-length c = search needs
 
 returns : tie.Need-returns
-returns c = ?
+returns c = out-one (start-answered _ (now (c .before .before .before .before .before .before .before .before .before .before .args .out)) (c .before .before .before .before .before .before .before .started .given .1) (c .before .before .before .before .before .before .before .before .before .before .pre) (c .before .before .before .before .before .rewind-row .ensures) (c .before .before .put-words .ensures))
 
 returns-2 : tie.Need-returns-2
 returns-2 c = search needs

@@ -1,3 +1,6 @@
+-- The three words have room.
+use native.Mathlib.Omega.{arith}
+use lib.ListN.{length-set}
 use borrow.Author.Needs.{needs}
 use Rattle.volume_history.proofs.rewinds.put_state.Statement.{statement}
 use Rattle.volume_history.proofs.rewinds.put_state.Tie as tie
@@ -6,7 +9,7 @@ slice-write-out : tie.Need-slice-write-out
 slice-write-out c = search needs
 
 slice-write-out-2 : tie.Need-slice-write-out-2
-slice-write-out-2 c = ?
+slice-write-out-2 c = simp length-set (omega arith)
 
 slice-write-out-3 : tie.Need-slice-write-out-3
 slice-write-out-3 c = search needs
