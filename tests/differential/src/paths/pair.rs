@@ -107,6 +107,11 @@ impl<'a> Pair<'a> {
         }
     }
 
+    /// The words, how many slots are used and how many of these are hidden, and the Rust's table.
+    pub fn into_parts(self) -> (Vec<u64>, usize, usize, Option<RewindEngine>) {
+        (self.model.words, self.used, self.hidden, self.rust)
+    }
+
     pub fn given(&self) -> Given<'a> {
         Given {
             names: self.names,
