@@ -27,10 +27,11 @@ const HISTORIES: u64 = 1;
 /// How many histories are recorded.
 const RECORDED: usize = 60;
 
-/// The most changes of a random history, its longest journal and its longest image.
+/// The most changes of a random history, its longest journal, its longest image and the most bytes of its paths.
 const CHANGES: usize = 10;
 const LONGEST_JOURNAL: usize = 2000;
 const LONGEST_IMAGE: usize = 2 * ENTRY;
+const LONGEST_PATHS: usize = 6000;
 
 /// The most records, slots and bytes of a path.
 const RECORDS: usize = 300;
@@ -63,7 +64,8 @@ pub fn write(folder: &Path) -> io::Result<()> {
     Ok(())
 }
 
-/// Record E, an empty journal, a file that is renamed, a folder that is moved into itself, and 258 folders in each other.
+/// Record E, an empty journal, a file that is renamed, a folder that is moved into itself, and 258 folders without names in
+/// each other.
 fn known(recording: &mut Recording) {
     recording.add(&example(&V2), &[]);
     recording.add(&example(&V3), &[]);
@@ -75,18 +77,22 @@ fn known(recording: &mut Recording) {
         ([42, 3], [42, 3], "b", NEW_NAME),
     ];
     let key = |at: u64| if at == 0 { ROOT } else { [1000 + at, 1] };
-    let deep: Vec<Told1> = (1..=258).map(|at| (key(at), key(at - 1), "a", CREATE)).collect();
+    let deep: Vec<Told1> = (1..=258).map(|at| (key(at), key(at - 1), "", CREATE)).collect();
     for records in [&renamed[..], &moved, &deep] {
         recording.add(&Journal::of(&V2, records).bytes, &[]);
     }
 }
 
-/// Random histories, up to the number wanted.
+/// Random histories that are small, up to the number wanted.
 fn random(recording: &mut Recording) {
     for number in 0.. {
         let mut random = Random::of_case(SEED, HISTORIES, number);
         let History { journal, image, .. } = History::new(&mut random, CHANGES);
-        if journal.len() <= LONGEST_JOURNAL && image.len() <= LONGEST_IMAGE {
+        let paths = answer(&journal, &image).1;
+        if journal.len() <= LONGEST_JOURNAL
+            && image.len() <= LONGEST_IMAGE
+            && paths.iter().map(String::len).sum::<usize>() <= LONGEST_PATHS
+        {
             recording.add(&journal, &image);
         }
         if recording.histories == RECORDED {
@@ -95,21 +101,27 @@ fn random(recording: &mut Recording) {
     }
 }
 
+/// What the Rust answers: how many keys its table has after the rewind, and the path of each record of the scan.
+fn answer(journal: &[u8], image: &[u8]) -> (usize, Vec<String>) {
+    let records = parse_usn_journal(journal).expect("the scan has no error");
+    let mut rust = RewindEngine::new();
+    rust.seed_from_carved(&carve_mft_entries(image).0);
+    let resolved = rust.rewind(&records);
+    let paths = resolved.into_iter().map(|record| record.full_path);
+    (rust.lookup_len(), paths.collect())
+}
+
 impl Recording {
     fn add(&mut self, journal: &[u8], image: &[u8]) {
-        let records = parse_usn_journal(journal).expect("the scan has no error");
-        let mut rust = RewindEngine::new();
-        rust.seed_from_carved(&carve_mft_entries(image).0);
-        let resolved = rust.rewind(&records);
-        let used = rust.lookup_len();
-        assert!(records.len() <= RECORDS && used <= SLOTS, "a recorded history is small");
+        let (used, paths) = answer(journal, image);
+        let small = paths.len() <= RECORDS && used <= SLOTS && paths.iter().all(|path| path.len() <= TEXT);
+        assert!(small, "a recorded history has room in the program that replays it");
         self.histories += 1;
         self.input(JOURNAL, journal);
         self.input(IMAGE, image);
-        self.stdout += &format!("records {} used {used}\n", records.len());
-        for record in resolved {
-            assert!(record.full_path.len() <= TEXT, "a recorded path is short");
-            self.stdout += &hex(record.full_path.as_bytes());
+        self.stdout += &format!("records {} used {used}\n", paths.len());
+        for path in paths {
+            self.stdout += &hex(path.as_bytes());
             self.stdout.push('\n');
         }
     }
