@@ -27,7 +27,7 @@ const RECORD_WORDS: usize = 2;
 const ENTRY_WORDS: usize = 9;
 
 fn main() {
-    let mut buffer = io::large_buffer();
+    let mut buffer = [0u8; 131072];
     let n = io::read_full(STDIN_FILENO, &mut buffer);
     replay_all(&buffer[..n]);
 }
