@@ -118,8 +118,7 @@ impl<'a> Beside<'a> {
         [first, forward]: [usize; 2],
         out: usize,
     ) -> Result<(), Finding> {
-        let words = |at: usize| front.get(at).copied().unwrap_or(untouched(at));
-        let mut first = Both::new((0..first).map(words).collect());
+        let mut first = Both::holding(front, first);
         let mut forward = Both::unused(forward);
         let answer = start(listed, &mut first, used, &mut forward, out)?;
         self.tally(answer.err());

@@ -9,11 +9,10 @@ use super::model::{Listed, Next, Step};
 use crate::difference::Finding;
 use crate::lent::{beginning, untouched, BEHIND};
 use crate::library::{ACCEPTED, NO_ROOM, TEXT_TOO_SMALL};
-use crate::names::comparison::{hex, untouched_byte};
 use crate::paths::library::{SLOT_FIELDS, SLOT_WORDS};
-use crate::paths::lists::{word_against, Lists, Room};
+use crate::paths::lists::{word_against, Lists, Room, Written};
 use crate::paths::model::Table;
-use crate::records::answers::named;
+use crate::paths::pair::against;
 
 /// A table as the scope has it, and our words, those lent and those behind them.
 #[derive(Debug, Clone)]
@@ -32,9 +31,14 @@ impl Both {
         }
     }
 
-    /// A table of so many words that hold nothing of a slot.
+    /// A table of so many words, as far as they go these, and nothing of a slot behind them.
+    pub fn holding(front: &[u64], words: usize) -> Self {
+        let word = |at: usize| front.get(at).copied().unwrap_or(untouched(at));
+        Self::new((0..words).map(word).collect())
+    }
+
     pub fn unused(words: usize) -> Self {
-        Self::new((0..words).map(untouched).collect())
+        Self::holding(&[], words)
     }
 
     /// The words that are lent.
@@ -72,11 +76,6 @@ impl Told {
             Told::Chain => CHAIN_STEP_WORDS,
         }
     }
-}
-
-/// The number is not the one expected.
-fn against(number: u32, expected: u32) -> Option<String> {
-    (number != expected).then(|| format!("the answer is {number}, not {expected}"))
 }
 
 /// Where the records lie, and in how many bytes, as it is printed.
@@ -175,10 +174,17 @@ pub fn next(
     if let Some(step) = step {
         forward.model = step.table.clone();
     }
-    let out = expected.as_ref().map_or(Vec::new(), |next| answered(next, state, told));
     let refusal = expected.as_ref().err().copied().unwrap_or(ACCEPTED);
+    // A chain that has no room for all its places is not written.
+    let chain = step.map_or(&[][..], |step| step.chain.words());
+    let text = step.filter(|_| told == Told::Path);
+    let written = Written {
+        chain: if chain.len() <= room.chain { chain } else { &[] },
+        text: text.map_or(&[], |step| step.text.as_bytes()),
+        out: expected.as_ref().map_or(Vec::new(), |next| answered(next, state, told)),
+    };
     let what = against(number, refusal)
-        .or_else(|| lists_against(&lists, step, told, room, &out))
+        .or_else(|| lists.against(&STEP_FIELDS, &written))
         .or_else(|| forward.against("forward"));
     let Some(what) = what else { return Ok(expected) };
     Err(Finding {
@@ -192,15 +198,7 @@ pub fn next(
             Some(step) => format!("the scope: {:?}, text {:?}", step.chain, step.text),
             None => format!("the scope: {expected:?}"),
         },
-        ours: match number {
-            ACCEPTED => format!(
-                "{}, chain {:?}, text {}",
-                named(&STEP_FIELDS, &lists.out),
-                beginning(&lists.chain),
-                hex(beginning(&lists.text))
-            ),
-            refusal => format!("refusal {refusal}"),
-        },
+        ours: lists.shown(&STEP_FIELDS, number),
     })
 }
 
@@ -213,26 +211,4 @@ fn call(listed: &Listed, forward: &mut [u64], state: State, told: Told, room: Ro
         }
         Told::Chain => rewind_next_chain(listed.names, listed.words, state, forward, chain, out),
     }
-}
-
-/// The first word or byte of the lent lists that is not what a step writes, or that it should have left alone. A chain
-/// that has no room for all its places is not written.
-fn lists_against(lists: &Lists, step: Option<&Step>, told: Told, room: Room, out: &[u64]) -> Option<String> {
-    if let Some((at, word)) = word_against(&lists.out, out) {
-        let field = STEP_FIELDS.get(at).unwrap_or(&"a word behind the answer");
-        return Some(format!("{field} is {}, not {word}", lists.out[at]));
-    }
-    let chain = step
-        .map(|step| step.chain.words())
-        .filter(|words| words.len() <= room.chain);
-    if let Some((at, word)) = word_against(&lists.chain, chain.unwrap_or_default()) {
-        return Some(format!("word {at} of the chain is {}, not {word}", lists.chain[at]));
-    }
-    let text = step
-        .filter(|_| told == Told::Path)
-        .map_or(&[][..], |step| step.text.as_bytes());
-    let expected = |at: usize| text.get(at).copied().unwrap_or(untouched_byte(at));
-    let at = (0..lists.text.len()).find(|&at| lists.text[at] != expected(at))?;
-    let (ours, expected) = (lists.text[at], expected(at));
-    Some(format!("byte {at} of the text is {ours:02x}, not {expected:02x}"))
 }

@@ -23,7 +23,7 @@ pub const LONGEST_CHAIN: usize = 771;
 const DEPTHS: [usize; 9] = [0, 1, 2, 254, 255, 256, 257, 258, 259];
 
 /// A record: its file and its folder, its name and the reasons of the change.
-pub type Told1<'a> = (Key, Key, &'a str, u32);
+pub type Change<'a> = (Key, Key, &'a str, u32);
 
 /// A journal of records, with the list of their places.
 pub struct Journal {
@@ -32,7 +32,7 @@ pub struct Journal {
 }
 
 impl Journal {
-    pub fn of(layout: &Layout, records: &[Told1]) -> Self {
+    pub fn of(layout: &Layout, records: &[Change]) -> Self {
         let (mut bytes, mut list) = (Vec::new(), Vec::new());
         for &(key, parent, name, reason) in records {
             let units: Vec<u16> = name.encode_utf16().collect();
@@ -86,11 +86,7 @@ impl<'a> Caller<'a> for InTurn {
 
 /// A whole rewind with tables that are just large enough, and others.
 fn whole(listed: &Listed, records: &[UsnRecord], before: Before, more: usize) -> Result<(), Finding> {
-    let mut table = Both::unused(before.words.len()).model;
-    table.words.copy_from_slice(&before.words);
-    let needed = listed
-        .needed(&table, before.used)
-        .expect("the records and the table are sound");
+    let needed = before.needed(listed).expect("the records and the table are sound");
     let words = [SLOT_WORDS * needed + more, SLOT_WORDS * needed + 2 * more];
     rewind(
         listed,
@@ -209,7 +205,7 @@ pub fn deep() -> Result<u64, Finding> {
         for top in [ROOT, [77, 7]] {
             for backward in [false, true] {
                 let key = |at: usize| if at == 0 { top } else { [1000 + at as u64, 1] };
-                let mut records: Vec<Told1> = (1..=depth).map(|at| (key(at), key(at - 1), "a", CREATE)).collect();
+                let mut records: Vec<Change> = (1..=depth).map(|at| (key(at), key(at - 1), "a", CREATE)).collect();
                 if backward {
                     records.reverse();
                 }

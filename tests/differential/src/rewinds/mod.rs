@@ -18,7 +18,6 @@ use crate::paths::library::SLOT_WORDS;
 use crate::random::Random;
 use crate::Run;
 use beside::Beside;
-use calls::Both;
 use cases::World;
 use model::Listed;
 use whole::Made;
@@ -60,9 +59,8 @@ fn random_case(random: &mut Random, world: &World, above: &[u8], made: &mut Made
     let records = world.records(random)?;
     let before = world.before(random)?;
     let listed = Listed::of(world.names(), &records.words);
-    let table = Both::new(before.words.clone()).model;
-    let needed = listed
-        .needed(&table, before.used)
+    let needed = before
+        .needed(&listed)
         .map_err(|refusal| whole::unexpected("a start", "one that is not refused", &refusal.to_string()))?;
     let words = [(); 2].map(|()| SLOT_WORDS * (needed + random.pick(&[0, 0, 0, 1, 5])) + random.pick(&[0, 0, 1, 6]));
     let mut beside = Beside {

@@ -1,12 +1,11 @@
 //! Calls that are refused, by every test and by several at once; they depend on no seed.
 
 use super::calls::{next, start, Both, Told};
-use super::edges::{Journal, Told1};
+use super::edges::{Change, Journal};
 use super::histories::{CREATE, NEW_NAME, OLD_NAME, ROOT};
 use super::library::{State, START_WORDS};
 use super::model::Listed;
 use crate::difference::Finding;
-use crate::lent::untouched;
 use crate::library::DOMAIN;
 use crate::paths::edges::under;
 use crate::paths::library::{Sources, SLOT_WORDS};
@@ -14,7 +13,7 @@ use crate::paths::lists::Room;
 use crate::records::layout::V2;
 
 /// Three records of two files, of which a table knows the first.
-const RECORDS: [Told1; 3] = [
+const RECORDS: [Change; 3] = [
     ([42, 3], ROOT, "a", OLD_NAME),
     ([43, 3], [42, 3], "b", CREATE),
     ([42, 3], ROOT, "c", NEW_NAME),
@@ -51,10 +50,7 @@ fn slices<'a>(journal: &'a [u8], above: &'a [u8]) -> [Sources<'a>; 3] {
 
 /// The words of a table that knows 42:3, its name inside the image or not, with room for so many slots.
 fn table(place: [u64; 3], slots: usize) -> Both {
-    let mut words = under(ROOT, [42, 3], place).to_vec();
-    words.truncate(SLOT_WORDS * slots);
-    words.extend((words.len()..SLOT_WORDS * slots).map(untouched));
-    Both::new(words)
+    Both::holding(&under(ROOT, [42, 3], place), SLOT_WORDS * slots)
 }
 
 /// Starts with every combination of what is refused: the answer's words, the domain, the used slots, the list, a place, the

@@ -6,7 +6,7 @@
 //! many keys the Rust's table has after the rewind, which the image's entries seed, and for each record a line, its path in
 //! hexadecimal.
 
-use super::edges::{Journal, Told1};
+use super::edges::{Change, Journal};
 use super::histories::{History, CREATE, NEW_NAME, OLD_NAME, ROOT};
 use crate::carve::carve_mft_entries;
 use crate::image::layout::ENTRY;
@@ -70,14 +70,14 @@ fn known(recording: &mut Recording) {
     recording.add(&example(&V2), &[]);
     recording.add(&example(&V3), &[]);
     recording.add(&[], &[]);
-    let renamed: [Told1; 2] = [([42, 3], ROOT, "a", OLD_NAME), ([42, 3], ROOT, "b", NEW_NAME)];
-    let moved: [Told1; 3] = [
+    let renamed: [Change; 2] = [([42, 3], ROOT, "a", OLD_NAME), ([42, 3], ROOT, "b", NEW_NAME)];
+    let moved: [Change; 3] = [
         ([42, 3], ROOT, "a", CREATE),
         ([42, 3], ROOT, "a", OLD_NAME),
         ([42, 3], [42, 3], "b", NEW_NAME),
     ];
     let key = |at: u64| if at == 0 { ROOT } else { [1000 + at, 1] };
-    let deep: Vec<Told1> = (1..=258).map(|at| (key(at), key(at - 1), "", CREATE)).collect();
+    let deep: Vec<Change> = (1..=258).map(|at| (key(at), key(at - 1), "", CREATE)).collect();
     for records in [&renamed[..], &moved, &deep] {
         recording.add(&Journal::of(&V2, records).bytes, &[]);
     }

@@ -8,7 +8,7 @@ use crate::library::{ACCEPTED, TEXT_TOO_SMALL};
 use crate::names::comparison::hex;
 use crate::paths::library::{path_resolve, Key, Slots, Sources, PATH_FIELDS, SLOT_WORDS};
 use crate::paths::lists::Room;
-use crate::paths::model::{key, parent, End};
+use crate::paths::model::{key, parent, End, Table};
 use crate::paths::pair::{rust_key, Pair};
 use crate::rewind::RewindEngine;
 use crate::usn::UsnRecord;
@@ -74,6 +74,12 @@ impl Before {
             rust: rust?,
         })
     }
+
+    /// How many slots a start needs in either table, or its refusal.
+    pub fn needed(&self, listed: &Listed) -> Result<usize, u32> {
+        let words = self.words.clone();
+        listed.needed(&Table { words }, self.used)
+    }
 }
 
 /// Who decides how the calls of a rewind are made.
@@ -104,11 +110,7 @@ pub fn rewind<'a>(
     caller: &mut impl Caller<'a>,
     made: &mut Made,
 ) -> Result<(), Finding> {
-    let mut first = Both::unused(words[0]);
-    let used = before.words.len();
-    let mut held = first.model.words;
-    held[..used].copy_from_slice(&before.words);
-    first = Both::new(held);
+    let mut first = Both::holding(&before.words, words[0]);
     let mut forward = Both::unused(words[1]);
     let state = match start(listed, &mut first, before.used, &mut forward, START_WORDS)? {
         Ok(state) => state,
