@@ -2,7 +2,7 @@
 use Prim.Native.Nat.{ℕ, _≤_, _<_}
 use native.Mathlib.Omega.{arith}
 use mathlib.Core.Path.{_≡_, refl, sym, ap, _∙_}
-use mathlib.Core.List.{List, [], _∷_}
+use mathlib.Core.List.{List, _∷_}
 use lib.ListN.{length}
 use lib.Seq.{sets}
 use Rattle.walk.specs.Lists.{listAfter}
@@ -10,9 +10,8 @@ use Rattle.walk.specs.Outcome.{Outcome, refused, answered, mapOutcome}
 use Rattle.walk.specs.Refusals.{listFull}
 use Rattle.walk.proofs.ListLaws.{sets-append}
 use Rattle.usn_journal_reader.specs.Answers.{number, withRoom}
-use Rattle.usn_journal_reader.proofs.AnswerLaws.{One, Out, out-one, out-refused, out-answered, room-few, room-enough}
+use Rattle.usn_journal_reader.proofs.AnswerLaws.{One, Out, out-one, out-answered, room-few, room-enough}
 use Rattle.chain.specs.declared.ResolvedPath.{ResolvedPath}
-use Rattle.path.specs.Telling.{Told}
 use Rattle.rewind.specs.Starting.{Tables, firstAfter, forwardAfter, startOutcome}
 use Rattle.rewind.specs.Stepping.{Next, ended, next, mapNext, Step, rewindAfter, wordsAfter, chainAfter}
 use Rattle.rewind.specs.Stepping.{outcome as stepOutcome}
