@@ -1,5 +1,5 @@
-// Image carving, the lookup table, paths and the decoding of names as C functions, for Rust or C to link: a slice is a pointer and
-// a length, and an answer goes out as a number, 0 or a refusal's, with its words in a lent list.
+// Image carving, the lookup table, paths, rewinds and the decoding of names as C functions, for Rust or C to link: a slice is a
+// pointer and a length, and an answer goes out as a number, 0 or a refusal's, with its words in a lent list.
 //
 //     mft_carve_entries    the MFT entries in an image
 //     utf16_decode         the text of a name
@@ -8,11 +8,14 @@
 //     path_resolve, path_chain
 //                          the path of a key, with its text and without it
 //     path_decode          the text of a stored name
+//     rewind_start, rewind_next, rewind_next_chain
+//                          the path of each record of a journal, with its text and without it
 //
 // Every function here is proved, and none has a `requires`. A refused call writes nothing, and one that answers writes the words
 // of its answer alone: those past them stay as they were.
 mod answers;
 mod paths;
+mod rewinds;
 
 ghost use mathlib.Core.Path.{_≡_};
 ghost use mathlib.Core.Bool.{true, false};
@@ -25,9 +28,14 @@ ghost use Rattle.chain.specs.Chain.{resolved};
 ghost use Rattle.chain.specs.Tracing.{chainAfter};
 ghost use Rattle.path.specs.Text.{placeText, placeLength, pathText};
 ghost use Rattle.path.specs.Telling.{told, place};
+ghost use Rattle.rewind.specs.Starting.{firstAfter, forwardAfter};
+ghost use Rattle.rewind.specs.Stepping.{wordsAfter as forwardWordsAfter};
+ghost use Rattle.rewind.specs.Stepping.{chainAfter as parentChainAfter};
+ghost use Rattle.rewind.specs.Telling.{nextText};
 ghost use Rattle.volume_history.specs.Image.{carveCall, carvedWords};
 ghost use Rattle.volume_history.specs.Names.{decodeCall, decodedBytes};
 ghost use Rattle.volume_history.specs.Path.{resolvedWords, toldWords, resolveCall, chainCall, placeCall};
+ghost use Rattle.volume_history.specs.Rewind.{rewindOf, startCall, startWords, stepWords, chainStepWords, pathStepWords, chainStepCall, pathStepCall};
 ghost use Rattle.volume_history.specs.Table.{keyOf, infoOf, insertCall, seedCall, usedWords};
 use crate::answers::STATS_WORDS;
 use crate::answers::TEXT_WORDS;
@@ -39,9 +47,16 @@ use crate::paths::CHAIN_WORDS;
 use crate::paths::PATH_WORDS;
 use crate::paths::put_chain;
 use crate::paths::put_path;
+use crate::rewinds::CHAIN_STEP_WORDS;
+use crate::rewinds::PATH_STEP_WORDS;
+use crate::rewinds::START_WORDS;
+use crate::rewinds::put_chain_step;
+use crate::rewinds::put_path_step;
+use crate::rewinds::put_start;
 use entry_table::EntryInfo;
 use entry_table::EntryKey;
 use entry_table::NamePlace;
+use rewind::Rewind;
 use walk::LIST_FULL;
 
 // The MFT entries in an image: for each nine words of list, namely its offset, number and sequence, its name's offset and length
@@ -269,6 +284,114 @@ pub extern "C" fn path_decode(
     }
     put_length(
         path::decode(journal, image, source, offset, length, text),
+        out,
+    )
+}
+
+// The start of a rewind, over records as a reader lists them, two words each, of which the offset counts: they go into the table
+// of seven words a slot, of which used are used, from the last to the first, an old name of a rename in place of a known entry and
+// any other where its key is new. The used slots are then copied to the front of forward. 2 words of out, the state: the used slots
+// of both tables, and how many records are behind, 0.
+// Answers 0, or refuses: 5 out has fewer than 2 words, 1 journal or image is above the domain, 9 used is above the slots, 12 at a
+// listed offset stands no record, 7 the name's place of a used slot is outside its slice, 6 the slots of either table are too few
+// for the used ones and the different new keys.
+#[no_mangle]
+pub extern "C" fn rewind_start(
+    journal: &[u8],
+    image: &[u8],
+    records: &[usize],
+    slots: &mut [u64],
+    used: usize,
+    forward: &mut [u64],
+    out: &mut [u64],
+) -> u32
+    ensures { λ r. ⌜ r ≡ number (startCall (now (journal .entry)) (now (image .entry)) (now (records .entry)) (now (slots .entry)) used (now (forward .entry)) (now (out .entry))) ⌝ }
+    ensures { λ _. ⌜ now (slots .exit) ≡ firstAfter (startCall (now (journal .entry)) (now (image .entry)) (now (records .entry)) (now (slots .entry)) used (now (forward .entry)) (now (out .entry))) (now (slots .entry)) ⌝ }
+    ensures { λ _. ⌜ now (forward .exit) ≡ forwardAfter (startCall (now (journal .entry)) (now (image .entry)) (now (records .entry)) (now (slots .entry)) used (now (forward .entry)) (now (out .entry))) (now (forward .entry)) ⌝ }
+    ensures { λ _. ⌜ now (out .exit) ≡ listAfter startWords (startCall (now (journal .entry)) (now (image .entry)) (now (records .entry)) (now (slots .entry)) used (now (forward .entry)) (now (out .entry))) (now (out .entry)) ⌝ }
+{
+    if out.len() < START_WORDS {
+        return LIST_FULL;
+    }
+    put_start(
+        rewind::rewind_start(journal, image, records, slots, used, forward),
+        out,
+    )
+}
+
+// The next record of a rewind, whose state is used and position, goes into forward: a new name or a creation in place of a known
+// entry, any other where its key is new. The record's path, its parent's, a backslash and its name, goes to the front of text, and
+// the places of its parent's path to chain, as path_resolve leaves them. 8 words of out: 1, the state after it, namely the used
+// slots and how many records are behind, and the 5 words of path_resolve, of which the first four are those of the parent's path and
+// the last is the bytes of the record's own. Or 3 words where no record is left: 0 and the state.
+// Answers 0, or refuses: 5 out has fewer than 8 words, 1 journal or image is above the domain, 9 used is above the slots, 12 at a
+// listed offset stands no record, 7 the name's place of a used slot is outside its slice, 6 the record's key is new and no slot is
+// left, 8 the text is too small.
+#[no_mangle]
+pub extern "C" fn rewind_next(
+    journal: &[u8],
+    image: &[u8],
+    records: &[usize],
+    used: usize,
+    position: usize,
+    forward: &mut [u64],
+    chain: &mut [u64],
+    text: &mut [u8],
+    out: &mut [u64],
+) -> u32
+    ensures { λ r. ⌜ r ≡ number (pathStepCall (now (journal .entry)) (now (image .entry)) (now (records .entry)) (rewindOf used position) (now (forward .entry)) (now (text .entry)) (now (out .entry))) ⌝ }
+    ensures { λ _. ⌜ now (forward .exit) ≡ forwardWordsAfter (pathStepCall (now (journal .entry)) (now (image .entry)) (now (records .entry)) (rewindOf used position) (now (forward .entry)) (now (text .entry)) (now (out .entry))) (now (forward .entry)) ⌝ }
+    ensures { λ _. ⌜ now (chain .exit) ≡ parentChainAfter (pathStepCall (now (journal .entry)) (now (image .entry)) (now (records .entry)) (rewindOf used position) (now (forward .entry)) (now (text .entry)) (now (out .entry))) (now (chain .entry)) ⌝ }
+    ensures { λ _. ⌜ now (text .exit) ≡ listAfter (nextText (now (journal .entry)) (now (image .entry))) (pathStepCall (now (journal .entry)) (now (image .entry)) (now (records .entry)) (rewindOf used position) (now (forward .entry)) (now (text .entry)) (now (out .entry))) (now (text .entry)) ⌝ }
+    ensures { λ _. ⌜ now (out .exit) ≡ listAfter (stepWords (pathStepWords (now (journal .entry)) (now (image .entry))) (rewindOf used position)) (pathStepCall (now (journal .entry)) (now (image .entry)) (now (records .entry)) (rewindOf used position) (now (forward .entry)) (now (text .entry)) (now (out .entry))) (now (out .entry)) ⌝ }
+{
+    if out.len() < PATH_STEP_WORDS {
+        return LIST_FULL;
+    }
+    put_path_step(
+        rewind::rewind_next(
+            journal,
+            image,
+            records,
+            Rewind { used, position },
+            forward,
+            chain,
+            text,
+        ),
+        out,
+    )
+}
+
+// The same without its text: 7 words of out, as above but for the text's bytes, or 3 where no record is left.
+// Answers 0, or refuses: 5 out has fewer than 7 words, 1, 9, 12, 7 and 6 as above.
+#[no_mangle]
+pub extern "C" fn rewind_next_chain(
+    journal: &[u8],
+    image: &[u8],
+    records: &[usize],
+    used: usize,
+    position: usize,
+    forward: &mut [u64],
+    chain: &mut [u64],
+    out: &mut [u64],
+) -> u32
+    ensures { λ r. ⌜ r ≡ number (chainStepCall (now (journal .entry)) (now (image .entry)) (now (records .entry)) (rewindOf used position) (now (forward .entry)) (now (out .entry))) ⌝ }
+    ensures { λ _. ⌜ now (forward .exit) ≡ forwardWordsAfter (chainStepCall (now (journal .entry)) (now (image .entry)) (now (records .entry)) (rewindOf used position) (now (forward .entry)) (now (out .entry))) (now (forward .entry)) ⌝ }
+    ensures { λ _. ⌜ now (chain .exit) ≡ parentChainAfter (chainStepCall (now (journal .entry)) (now (image .entry)) (now (records .entry)) (rewindOf used position) (now (forward .entry)) (now (out .entry))) (now (chain .entry)) ⌝ }
+    ensures { λ _. ⌜ now (out .exit) ≡ listAfter (stepWords chainStepWords (rewindOf used position)) (chainStepCall (now (journal .entry)) (now (image .entry)) (now (records .entry)) (rewindOf used position) (now (forward .entry)) (now (out .entry))) (now (out .entry)) ⌝ }
+{
+    if out.len() < CHAIN_STEP_WORDS {
+        return LIST_FULL;
+    }
+    put_chain_step(
+        rewind::rewind_next_chain(
+            journal,
+            image,
+            records,
+            Rewind { used, position },
+            forward,
+            chain,
+        ),
         out,
     )
 }

@@ -58,7 +58,7 @@ pub(crate) fn put_path(answer: PathAnswer, out: &mut [u64]) -> u32
 }
 
 // Names and end.
-fn resolved_row(path: ResolvedPath) -> [u64; 4]
+pub(crate) fn resolved_row(path: ResolvedPath) -> [u64; 4]
     ensures { λ row. ⌜ row ≡ resolvedWords path ⌝ }
 {
     let last = path.end;
@@ -67,7 +67,7 @@ fn resolved_row(path: ResolvedPath) -> [u64; 4]
 }
 
 // Names, end and the text's length.
-fn told_row(path: ResolvedPath, text: usize) -> [u64; 5]
+pub(crate) fn told_row(path: ResolvedPath, text: usize) -> [u64; 5]
     ensures { λ row. ⌜ row ≡ toldWords (record { path = path; text = text }) ⌝ }
 {
     let last = path.end;

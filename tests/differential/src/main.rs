@@ -14,6 +14,7 @@ mod names;
 mod paths;
 mod random;
 mod records;
+mod rewinds;
 mod usn;
 mod window;
 
@@ -38,7 +39,7 @@ pub struct Run {
 type Subject = (&'static str, fn(&Run) -> Outcome);
 
 /// All that is compared.
-const SUBJECTS: [Subject; 8] = [
+const SUBJECTS: [Subject; 9] = [
     ("parsers", records::parsers::run),
     ("listed records", records::listed::run),
     ("journal", journals::scan::run),
@@ -47,6 +48,7 @@ const SUBJECTS: [Subject; 8] = [
     ("names", names::run),
     ("image", image::run),
     ("paths", paths::run),
+    ("rewinds", rewinds::run),
 ];
 
 enum Command {
@@ -90,7 +92,8 @@ fn record(crates: &Path) -> io::Result<()> {
     records::sample::write(&crates.join("replay_record"))?;
     journals::sample::write(&crates.join("replay_readers"))?;
     image::sample::write(&crates.join("replay_image"))?;
-    paths::sample::write(&crates.join("replay_path"))
+    paths::sample::write(&crates.join("replay_path"))?;
+    rewinds::sample::write(&crates.join("replay_rewind"))
 }
 
 /// Every subject in turn, or the one that is asked for, up to the first difference.

@@ -195,7 +195,7 @@ fn bytes(random: &mut Random, most: usize) -> Vec<u8> {
 }
 
 /// A place in a slice of this length, often at its end, and one in `outside` times past it.
-fn in_slice(random: &mut Random, source: u64, slice: usize, outside: usize) -> Place {
+pub fn in_slice(random: &mut Random, source: u64, slice: usize, outside: usize) -> Place {
     let length = random.below(2 * LONGEST).min(slice);
     let offset = match random.below(8) {
         0 => slice - length,

@@ -1,6 +1,5 @@
 //! What is lent to a path: the chain, the text and the answer, and what a call left there.
 
-use super::library::PATH_FIELDS;
 use crate::lent::{beginning, untouched, BEHIND};
 use crate::library::ACCEPTED;
 use crate::names::comparison::{hex, untouched_byte};
@@ -38,11 +37,11 @@ impl Lists {
         }
     }
 
-    /// The first word or byte that is not that written in front, or behind it not untouched.
-    pub fn against(&self, written: &Written) -> Option<String> {
+    /// The first word or byte that is not that written in front, or behind it not untouched. The answer has these fields.
+    pub fn against(&self, fields: &[&str], written: &Written) -> Option<String> {
         let Written { chain, text, out } = written;
         if let Some((at, word)) = word_against(&self.out, out) {
-            let field = PATH_FIELDS.get(at).unwrap_or(&"a word behind the answer");
+            let field = fields.get(at).unwrap_or(&"a word behind the answer");
             return Some(format!("{field} is {}, not {word}", self.out[at]));
         }
         if let Some((at, word)) = word_against(&self.chain, chain) {
@@ -54,10 +53,10 @@ impl Lists {
         Some(format!("byte {at} of the text is {ours:02x}, not {expected:02x}"))
     }
 
-    pub fn shown(&self, number: u32) -> String {
+    pub fn shown(&self, fields: &[&str], number: u32) -> String {
         let (chain, text) = (beginning(&self.chain), hex(beginning(&self.text)));
         match number {
-            ACCEPTED => format!("{}, chain {chain:?}, text {text}", named(&PATH_FIELDS, &self.out)),
+            ACCEPTED => format!("{}, chain {chain:?}, text {text}", named(fields, &self.out)),
             refusal => format!("refusal {refusal}"),
         }
     }

@@ -1,14 +1,14 @@
 //! Tables and paths: `RewindEngine` of the original, its insertions, its seeding and its paths, against the library's
 //! calls on a lent table. The subject is `paths`.
 
-mod cases;
-mod edges;
-mod library;
-mod lists;
-mod model;
-mod pair;
+pub mod cases;
+pub mod edges;
+pub mod library;
+pub mod lists;
+pub mod model;
+pub mod pair;
 mod places;
-mod programs;
+pub mod programs;
 mod refusals;
 pub mod sample;
 

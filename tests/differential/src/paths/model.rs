@@ -92,7 +92,7 @@ impl Table {
     }
 
     /// The lowest used slot with this key.
-    fn find(&self, used: usize, [entry, sequence]: Key) -> Option<usize> {
+    pub fn find(&self, used: usize, [entry, sequence]: Key) -> Option<usize> {
         let slots = self.words.chunks_exact(SLOT_WORDS).take(used);
         slots
             .into_iter()

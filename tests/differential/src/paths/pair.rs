@@ -107,6 +107,11 @@ impl<'a> Pair<'a> {
         }
     }
 
+    /// The words, how many slots are used and how many of these are hidden, and the Rust's table.
+    pub fn into_parts(self) -> (Vec<u64>, usize, usize, Option<RewindEngine>) {
+        (self.model.words, self.used, self.hidden, self.rust)
+    }
+
     pub fn given(&self) -> Given<'a> {
         Given {
             names: self.names,
@@ -289,7 +294,7 @@ impl<'a> Pair<'a> {
             written.chain = &[];
         }
         let what = against(number, refusal)
-            .or_else(|| lists.against(&written))
+            .or_else(|| lists.against(&PATH_FIELDS, &written))
             .or_else(|| self.slots_against());
         let Some(what) = what else { return Ok(()) };
         let Question { given, key, told } = question;
@@ -302,7 +307,7 @@ impl<'a> Pair<'a> {
             ),
             what,
             rust: format!("the scope: {told:?}, {}", shown(&self.model, self.used)),
-            ours: lists.shown(number),
+            ours: lists.shown(&PATH_FIELDS, number),
         })
     }
 
@@ -316,7 +321,7 @@ impl<'a> Pair<'a> {
 }
 
 /// The number is not the one expected.
-fn against(number: u32, expected: u32) -> Option<String> {
+pub fn against(number: u32, expected: u32) -> Option<String> {
     (number != expected).then(|| format!("the answer is {number}, not {expected}"))
 }
 

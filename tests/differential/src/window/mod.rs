@@ -4,7 +4,7 @@
 mod calls;
 mod edges;
 mod model;
-mod reading;
+pub mod reading;
 mod refusals;
 mod short_reads;
 mod streams;

@@ -1,0 +1,191 @@
+//! The calls of our library that rewind a journal, `libvolume_history.a`. Nothing checks these declarations against its
+//! source.
+//!
+//! As everywhere, a call answers 0 and writes the words of its answer, or answers a refusal number and writes nothing.
+//! The calls ask nothing of their arguments, so the wrappers are safe for any slices.
+
+use crate::paths::library::Sources;
+
+/// The words of a start's answer, the state that it begins.
+pub const START_FIELDS: [&str; 2] = ["used", "position"];
+
+/// How many these are.
+pub const START_WORDS: usize = START_FIELDS.len();
+
+/// The words of a step's answer: what it is, the state after it, and the path of the record's parent with the length of the
+/// record's own. A step without text lacks the last, and the end has the first three.
+pub const STEP_FIELDS: [&str; 8] = [
+    "kind",
+    "used",
+    "position",
+    "names",
+    "end",
+    "end's entry",
+    "end's sequence",
+    "text length",
+];
+
+/// How many words are asked for with text, and without it.
+pub const PATH_STEP_WORDS: usize = STEP_FIELDS.len();
+pub const CHAIN_STEP_WORDS: usize = PATH_STEP_WORDS - 1;
+
+/// The first word of a step's answer.
+pub const END: u64 = 0;
+pub const RECORD: u64 = 1;
+
+/// How many slots of the forward table are used, and how many records are behind.
+#[derive(Debug, Clone, Copy, PartialEq, Eq)]
+pub struct State {
+    pub used: usize,
+    pub position: usize,
+}
+
+mod declared {
+    extern "C" {
+        pub fn rewind_start(
+            journal: *const u8,
+            journal_len: usize,
+            image: *const u8,
+            image_len: usize,
+            records: *const usize,
+            records_len: usize,
+            slots: *mut u64,
+            slots_len: usize,
+            used: usize,
+            forward: *mut u64,
+            forward_len: usize,
+            out: *mut u64,
+            out_len: usize,
+        ) -> u32;
+
+        pub fn rewind_next(
+            journal: *const u8,
+            journal_len: usize,
+            image: *const u8,
+            image_len: usize,
+            records: *const usize,
+            records_len: usize,
+            used: usize,
+            position: usize,
+            forward: *mut u64,
+            forward_len: usize,
+            chain: *mut u64,
+            chain_len: usize,
+            text: *mut u8,
+            text_len: usize,
+            out: *mut u64,
+            out_len: usize,
+        ) -> u32;
+
+        pub fn rewind_next_chain(
+            journal: *const u8,
+            journal_len: usize,
+            image: *const u8,
+            image_len: usize,
+            records: *const usize,
+            records_len: usize,
+            used: usize,
+            position: usize,
+            forward: *mut u64,
+            forward_len: usize,
+            chain: *mut u64,
+            chain_len: usize,
+            out: *mut u64,
+            out_len: usize,
+        ) -> u32;
+    }
+}
+
+/// The start of a rewind over listed records, two words each: they go into the table of `slots`, which is copied to the
+/// front of `forward`; `out` takes the `START_FIELDS`.
+pub fn rewind_start(
+    names: Sources,
+    records: &[usize],
+    slots: &mut [u64],
+    used: usize,
+    forward: &mut [u64],
+    out: &mut [u64],
+) -> u32 {
+    // SAFETY: the slices are readable over their lengths, the mutable ones are writable, and none overlap.
+    unsafe {
+        declared::rewind_start(
+            names.journal.as_ptr(),
+            names.journal.len(),
+            names.image.as_ptr(),
+            names.image.len(),
+            records.as_ptr(),
+            records.len(),
+            slots.as_mut_ptr(),
+            slots.len(),
+            used,
+            forward.as_mut_ptr(),
+            forward.len(),
+            out.as_mut_ptr(),
+            out.len(),
+        )
+    }
+}
+
+/// The next record: the places of its parent's path, where `chain` has room for all, its own path at the front of `text`;
+/// `out` takes the `STEP_FIELDS`.
+pub fn rewind_next(
+    names: Sources,
+    records: &[usize],
+    state: State,
+    forward: &mut [u64],
+    chain: &mut [u64],
+    text: &mut [u8],
+    out: &mut [u64],
+) -> u32 {
+    // SAFETY: as above.
+    unsafe {
+        declared::rewind_next(
+            names.journal.as_ptr(),
+            names.journal.len(),
+            names.image.as_ptr(),
+            names.image.len(),
+            records.as_ptr(),
+            records.len(),
+            state.used,
+            state.position,
+            forward.as_mut_ptr(),
+            forward.len(),
+            chain.as_mut_ptr(),
+            chain.len(),
+            text.as_mut_ptr(),
+            text.len(),
+            out.as_mut_ptr(),
+            out.len(),
+        )
+    }
+}
+
+/// The same without the text; `out` takes the first `CHAIN_STEP_WORDS`.
+pub fn rewind_next_chain(
+    names: Sources,
+    records: &[usize],
+    state: State,
+    forward: &mut [u64],
+    chain: &mut [u64],
+    out: &mut [u64],
+) -> u32 {
+    // SAFETY: as above.
+    unsafe {
+        declared::rewind_next_chain(
+            names.journal.as_ptr(),
+            names.journal.len(),
+            names.image.as_ptr(),
+            names.image.len(),
+            records.as_ptr(),
+            records.len(),
+            state.used,
+            state.position,
+            forward.as_mut_ptr(),
+            forward.len(),
+            chain.as_mut_ptr(),
+            chain.len(),
+            out.as_mut_ptr(),
+            out.len(),
+        )
+    }
+}
