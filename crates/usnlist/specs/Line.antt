@@ -1,8 +1,9 @@
 -- The bytes of a line: a record's numbers, and how a path is shown.
-use Prim.Native.Nat.{ℕ, _+_}
+use Prim.Native.Nat.{ℕ, suc}
 use mathlib.Core.List.{List, [], _∷_, _++_, map}
 use mathlib.Core.Bool.{cond}
 use lib.Dec.{ltb}
+use lib.ListN.{take, drop}
 use lib.IntN.{ℤ, pos, negsuc}
 use Rattle.io.specs.Digits.{digits}
 use Rattle.utf16.specs.Decimal.{decimal}
@@ -22,32 +23,37 @@ questionMark = 0x3F
 unfoldable pub field : ℕ → List ℕ
 field n = decimal n ++ space
 
--- the same for a signed one
+-- two numbers
+unfoldable pub pair : ℕ → ℕ → List ℕ
+pair a b = field a ++ field b
+
+-- a signed number
 unfoldable pub signedField : ℤ → List ℕ
-signedField (pos n) = decimal n ++ space
-signedField (negsuc n) = minus ++ (decimal (n + 1) ++ space)
+signedField (pos n) = field n
+signedField (negsuc n) = minus ++ field (suc n)
 
--- 8 hexadecimal digits in lower case, and a space
+-- the last k hexadecimal digits of a number, in lower case
+unfoldable pub hexDigits : ℕ → ℕ → List ℕ
+hexDigits k n = digits 16 k n
+
+-- 8 of them, and a space
 unfoldable pub hexField : ℕ → List ℕ
-hexField n = digits 16 8 n ++ space
+hexField n = hexDigits 8 n ++ space
 
--- the numbers of a record at an offset
+-- the numbers of a record at an offset, in the order of the header
 unfoldable pub numbers : ℕ → UsnRecord → List ℕ
 numbers offset r =
-    field offset
-    ++ (field (r .«major_version»)
-    ++ (field (r .«mft_entry»)
-    ++ (field (r .«mft_sequence»)
-    ++ (field (r .«parent_mft_entry»)
-    ++ (field (r .«parent_mft_sequence»)
+    pair offset (r .«major_version»)
+    ++ (pair (r .«mft_entry») (r .«mft_sequence»)
+    ++ (pair (r .«parent_mft_entry») (r .«parent_mft_sequence»)
     ++ (signedField (r .usn)
-    ++ (field (r .timestamp .seconds)
-    ++ (field (r .timestamp .nanoseconds)
-    ++ hexField (r .reason)))))))))
+    ++ (pair (r .timestamp .seconds) (r .timestamp .nanoseconds)
+    ++ hexField (r .reason)))))
 
 -- a byte of a path: a control character is shown as a question mark
 abbrev pub shownByte : ℕ → ℕ
 shownByte b = cond (ltb b 0x20) questionMark b
 
-abbrev pub shown : List ℕ → List ℕ
-shown = map shownByte
+-- a text whose first n bytes are as they are shown
+unfoldable pub shownTo : ℕ → List ℕ → List ℕ
+shownTo n l = map shownByte (take n l) ++ drop n l

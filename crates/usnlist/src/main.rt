@@ -75,11 +75,23 @@ fn list_from(journal: &[u8], records: &[usize], start: Rewind, forward: &mut [u6
     let mut rewind = start;
     let mut i: usize = 0;
     while i < records.len() / 2 {
-        write_numbers(journal, records[2 * i]);
-        rewind = write_path(journal, records, rewind, forward);
-        io::write_all(STDOUT_FILENO, b"\n");
+        rewind = write_line(journal, records, records[2 * i], rewind, forward);
         i += 1;
     }
+}
+
+// The line of the next record, which is at this offset, and the rewind after it.
+fn write_line(
+    journal: &[u8],
+    records: &[usize],
+    offset: usize,
+    rewind: Rewind,
+    forward: &mut [u64],
+) -> Rewind {
+    write_numbers(journal, offset);
+    let next = write_path(journal, records, rewind, forward);
+    io::write_all(STDOUT_FILENO, b"\n");
+    next
 }
 
 // The numbers of the record at an offset, a space after each.
@@ -87,7 +99,7 @@ fn write_numbers(journal: &[u8], offset: usize) {
     match listed_record(journal, offset) {
         Parsed::Refused(n) => write_refused(n),
         Parsed::Record(record) => {
-            let mut line = [0u8; 220];
+            let mut line = [0u8; 199];
             let n = put_numbers(&mut line, offset, record);
             io::write_all(STDOUT_FILENO, &line[..n]);
         }
@@ -100,7 +112,13 @@ fn write_path(journal: &[u8], records: &[usize], rewind: Rewind, forward: &mut [
     let mut text = io::large_buffer();
     let mut chain = [0u64; 0];
     let step = rewind_next(
-        journal, b"", records, rewind, forward, &mut chain, &mut text,
+        journal,
+        b"",
+        records,
+        rewind,
+        forward,
+        &mut chain,
+        &mut text,
     );
     let next = step.next;
     match next {
@@ -112,8 +130,7 @@ fn write_path(journal: &[u8], records: &[usize], rewind: Rewind, forward: &mut [
         NextPath::Refused(n) => {
             if n == TEXT_FULL {
                 io::write_all(STDOUT_FILENO, b"?");
-                let passed =
-                    rewind_next_chain(journal, b"", records, rewind, forward, &mut chain);
+                let passed = rewind_next_chain(journal, b"", records, rewind, forward, &mut chain);
                 passed.rewind
             } else {
                 write_refused(n);

@@ -1,14 +1,13 @@
 // The bytes of a path as they are shown.
 ghost use mathlib.Core.Path.{_≡_};
 ghost use Prim.Native.Nat.{_≤_};
-ghost use lib.ListN.{length, take};
-ghost use lib.Seq.{sets};
-ghost use Rattle.usnlist.specs.Line.{shownByte, shown};
+ghost use lib.ListN.{length};
+ghost use Rattle.usnlist.specs.Line.{shownByte, shownTo};
 
 // The first n bytes of a text: each control character, a byte below 20h, becomes a question mark.
 pub(crate) fn show(text: &mut [u8], n: usize)
     requires { ⌜ n ≤ length (now text) ⌝ }
-    ensures { λ _. ⌜ now (text .exit) ≡ sets (now (text .entry)) 0 (shown (take n (now (text .entry)))) ⌝ }
+    ensures { λ _. ⌜ now (text .exit) ≡ shownTo n (now (text .entry)) ⌝ }
 {
     let mut i: usize = 0;
     while i < n {

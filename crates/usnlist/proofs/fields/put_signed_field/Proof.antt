@@ -1,56 +1,42 @@
+-- By the sign.
+use Rattle.usnlist.proofs.SignLaws.{signed-below, signed-above}
 use borrow.Author.Needs.{needs}
 use Rattle.usnlist.proofs.fields.put_signed_field.Statement.{statement}
 use Rattle.usnlist.proofs.fields.put_signed_field.Tie as tie
 
+magnitude-requires : tie.Need-magnitude-requires
+magnitude-requires c κs = search needs
+
 put-byte-requires : tie.Need-put-byte-requires
 put-byte-requires c κs = search needs
 
-cast-put-decimal : tie.Need-cast-put-decimal
-cast-put-decimal c = ?
-
-add-put-decimal : tie.Need-add-put-decimal
-add-put-decimal c = ?
-
-put-decimal-requires : tie.Need-put-decimal-requires
-put-decimal-requires c κs = ?
-
-put-byte-requires-2 : tie.Need-put-byte-requires-2
-put-byte-requires-2 c κs = ?
+put-field-requires : tie.Need-put-field-requires
+put-field-requires c κs = search needs
 
 same-length : tie.Need-same-length
 same-length c = search needs
 
 returns : tie.Need-returns
-returns c = ?
+returns c = signed-below (c .before .before .before .before .before .before .before .before .before .before .before .args .z) (c .before .before .before .before .before .before .before .before .before .before .before .fits .z) _ _ (c .before .before .before .before .before .before .before .before .before .magnitude .ensures) (c .before .before .before .before .before .before .before .before .if1 .taken) (c .before .before .before .before .before .before .put-byte .ensures) (c .before .before .put-field .ensures)
 
-cast-put-decimal-2 : tie.Need-cast-put-decimal-2
-cast-put-decimal-2 c = ?
-
-put-decimal-requires-2 : tie.Need-put-decimal-requires-2
-put-decimal-requires-2 c κs = ?
-
-put-byte-requires-3 : tie.Need-put-byte-requires-3
-put-byte-requires-3 c κs = ?
+put-field-requires-2 : tie.Need-put-field-requires-2
+put-field-requires-2 c κs = search needs
 
 same-length-2 : tie.Need-same-length-2
 same-length-2 c = search needs
 
 returns-2 : tie.Need-returns-2
-returns-2 c = ?
+returns-2 c = signed-above (c .before .before .before .before .before .before .before .args .z) (c .before .before .before .before .before .before .before .fits .z) _ _ (c .before .before .before .before .before .magnitude .ensures) (c .before .before .before .before .if1 .left) (c .before .before .put-field2 .ensures)
 
 pub put-signed-field-spec : {M : Type 1} → statement M
 put-signed-field-spec =
     tie.close
     (tie.spec
+    magnitude-requires
     put-byte-requires
-    cast-put-decimal
-    add-put-decimal
-    put-decimal-requires
-    put-byte-requires-2
+    put-field-requires
     same-length
     returns
-    cast-put-decimal-2
-    put-decimal-requires-2
-    put-byte-requires-3
+    put-field-requires-2
     same-length-2
     returns-2)
