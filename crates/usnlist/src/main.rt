@@ -13,7 +13,6 @@ use crate::fields::put_numbers;
 use crate::shown::show;
 use libc::STDIN_FILENO;
 use libc::STDOUT_FILENO;
-use rewind::NextChain;
 use rewind::NextPath;
 use rewind::Rewind;
 use rewind::Started;
