@@ -192,7 +192,7 @@ fn unknown() -> Vec<u8> {
     ])
 }
 
-/// Folders that are in themselves, and a ladder of 260 folders under the root.
+/// Folders that are in themselves, and a ladder of 260 folders under the root, most of them without a name.
 fn unresolved() -> Vec<u8> {
     let mut records = vec![
         record(Key(9, 1), Key(9, 1), CREATE, "a"),
@@ -201,7 +201,8 @@ fn unresolved() -> Vec<u8> {
     ];
     let step = |i: u64| if i == 0 { ROOT } else { Key(1000 + i, 1) };
     for i in 1..=260 {
-        records.push(record(step(i), step(i - 1), CREATE, "d"));
+        let name = if i % 10 == 0 { "d" } else { "" };
+        records.push(record(step(i), step(i - 1), CREATE, name));
     }
     for i in [255, 256, 257, 258] {
         records.push(record(Key(20 + i, 1), step(i), CREATE, "e"));
@@ -275,7 +276,7 @@ fn cut_header() -> Vec<u8> {
 fn full() -> Vec<u8> {
     let step = |i: u64| if i == 0 { ROOT } else { Key(5 + i, 1) };
     let records: Vec<Record> = (1..=1025)
-        .map(|i| record(step(i), step(i / 2), CREATE, "ab").usn(64 * i as i64))
+        .map(|i| record(step(i), step(i / 16), CREATE, "ab").usn(64 * i as i64))
         .collect();
     let bytes = journal(&records);
     assert_eq!(bytes.len(), BYTES + 64);
