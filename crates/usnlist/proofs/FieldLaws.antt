@@ -1,7 +1,7 @@
 -- The fields of a line, each written after the one before. Assumes nothing.
 use Prim.Native.Nat.{ℕ, zero, suc, _+_, _-_, _/_, _%_, _^_, _≤_, _<_}
 use mathlib.Core.Path.{_≡_, refl, ap, sym, _∙_}
-use mathlib.Core.Bool.{Bool, true, false, cond}
+use mathlib.Core.Bool.{Bool, true, false}
 use mathlib.Core.List.{List, [], _∷_, _++_}
 use native.Mathlib.Nat.{pow-succ'}
 use native.Mathlib.Numerals.{unary-clauses}
@@ -13,7 +13,7 @@ use lib.Seq.{sets}
 use Rattle.io.specs.Digits.{digits, glyph}
 use Rattle.utf16.specs.Decimal.{decimal}
 use Rattle.utf16.proofs.DecimalLaws.{decimal-one, decimal-next}
-use Rattle.utf16.proofs.PutLaws.{Put, put-as, put-room, put-then}
+use Rattle.utf16.proofs.PutLaws.{Put, put-as, put-then}
 use Rattle.usnlist.specs.Line.{space, field, pair, hexDigits, hexField}
 
 -- a number below a power of ten has no more digits than the power

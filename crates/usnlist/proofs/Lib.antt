@@ -2,3 +2,4 @@ pub mod FieldLaws
 pub mod SignLaws
 pub mod NumberLaws
 pub mod ShownLaws
+pub mod StepLaws

@@ -1,13 +1,13 @@
 -- The numbers of a line, one part written after the other. Assumes nothing.
 use Prim.Native.Nat.{ℕ, _+_, _≤_}
-use mathlib.Core.Path.{_≡_, ap, sym, _∙_}
+use mathlib.Core.Path.{_≡_}
 use mathlib.Core.List.{List, _++_}
 use native.Mathlib.Omega.{arith}
 use lib.ListN.{length}
 use lib.Seq.{sets}
 use lib.IntN.{ℤ}
 use Rattle.usn_record.specs.declared.UsnRecord.{UsnRecord}
-use Rattle.utf16.proofs.PutLaws.{Put, put-as, put-then}
+use Rattle.utf16.proofs.PutLaws.{Put, put-then}
 use Rattle.usnlist.specs.Line.{pair, signedField, hexField, numbers}
 use Rattle.usnlist.proofs.FieldLaws.{Filled}
 

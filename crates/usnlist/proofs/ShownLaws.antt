@@ -1,10 +1,10 @@
 -- A text is shown from its front, one byte at a time. Assumes nothing.
 use Prim.Native.Nat.{ℕ, zero, suc, _+_, _≤_, _<_}
 use mathlib.Core.Path.{_≡_, refl, ap, sym, _∙_}
-use mathlib.Core.List.{List, [], _∷_, _++_, map}
+use mathlib.Core.List.{List, [], _∷_}
 use native.Mathlib.Numerals.{add-one}
 use native.Mathlib.Omega.{arith}
-use lib.ListN.{length, set, getD, take, drop}
+use lib.ListN.{length, set, getD}
 use Rattle.usnlist.specs.Line.{shownByte, shownTo}
 
 pub shown-none : (l : List ℕ) → l ≡ shownTo 0 l

@@ -4,11 +4,14 @@
 // from an empty table. Standard output is a header, the lines, and a last line that counts the records. A path's bytes below
 // 20h are shown as `?`, and so is, once, a path above 65536 bytes.
 //
-// Every function here is proved safe; those of `fields` and `shown` also to put the right bytes. What is written is held to the
-// Rust original by tests/usnlist.
+// Every function here is proved safe and to end. Those of `fields` and `shown` are proved to put the right bytes, and write_path
+// to go on as the library's step does. No contract can say what is written: tests/usnlist holds that to the Rust original.
 mod fields;
 mod shown;
 
+ghost use mathlib.Core.Path.{_≡_};
+ghost use mathlib.Core.List.{[]};
+ghost use Rattle.rewind.specs.Stepping.{stepped, rewindAfter, wordsAfter};
 use crate::fields::put_numbers;
 use crate::shown::show;
 use libc::STDIN_FILENO;
@@ -106,8 +109,11 @@ fn write_numbers(journal: &[u8], offset: usize) {
 }
 
 // The path of the next record, and the rewind after it. A path that does not fit the text is shown as one `?`, and the record is
-// passed without text.
-fn write_path(journal: &[u8], records: &[usize], rewind: Rewind, forward: &mut [u64]) -> Rewind {
+// passed without text: whether it fits or not, table and rewind are what the step leaves.
+fn write_path(journal: &[u8], records: &[usize], rewind: Rewind, forward: &mut [u64]) -> Rewind
+    ensures { λ r. ⌜ r ≡ rewindAfter (stepped (now (journal .entry)) [] (now (records .entry)) (now (forward .entry)) rewind) rewind ⌝ }
+    ensures { λ _. ⌜ now (forward .exit) ≡ wordsAfter (stepped (now (journal .entry)) [] (now (records .entry)) (now (forward .entry)) rewind) (now (forward .entry)) ⌝ }
+{
     let mut text = io::large_buffer();
     let mut chain = [0u64; 0];
     let step = rewind_next(

@@ -1,5 +1,4 @@
 -- By the size of the digit.
-use native.Mathlib.Omega.{arith}
 use Rattle.usnlist.proofs.FieldLaws.{glyph-low, glyph-high}
 use borrow.Author.Needs.{needs}
 use Rattle.usnlist.proofs.fields.hex_digit.Statement.{statement}
