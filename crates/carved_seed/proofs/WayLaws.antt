@@ -19,9 +19,10 @@ use Rattle.entry_table.specs.declared.NamePlace.{NamePlace}
 use Rattle.entry_table.specs.declared.slots.Found.{Found}
 use Rattle.entry_table.specs.declared.slots.Found.the-variants.{At, Nothing}
 use Rattle.entry_table.proofs.AdditionLaws.{same-addition}
+use Rattle.carved_seed.specs.declared.Seeded.{Seeded}
 use Rattle.carved_seed.specs.declared.turns.Bounds.{Bounds}
 use Rattle.carved_seed.specs.declared.turns.Seeding.{Seeding}
-use Rattle.carved_seed.specs.Turns.{toJudge, toCompare, toAdd, toEnd, nextFrom, firstFrom, compareFrom, judged, compared, addedTo, afterAdding, inserted, wordsInserted, turned, wordsTurned, answer}
+use Rattle.carved_seed.specs.Turns.{toJudge, toCompare, toAdd, toEnd, nextFrom, firstFrom, compareFrom, judged, compared, addedTo, afterAdding, inserted, wordsInserted, turned, wordsTurned, seededOutcome}
 
 module _ (count slots used i n : ℕ) {r : Seeding} where
   pub next-judge : i < count → r ≡ toJudge i n used → r ≡ nextFrom count slots used i n
@@ -117,11 +118,11 @@ module _ (b : Bounds) (s : List ℕ) (t : Seeding) (c : CarvedMftEntry) {r : See
   unfolding turned wordsTurned
   turns-insert g h e = (e .0 ∙ sym (rw (turned, ne-eqb _ _ g, ne-eqb _ _ h)), e .1 ∙ sym (rw (wordsTurned, ne-eqb _ _ g, ne-eqb _ _ h)))
 
-module _ (t : Seeding) where
-  pub answer-used : t .refusal ≡ 0 → answered (t .used) ≡ answer t
-  unfolding answer
-  answer-used h = sym (rw (answer, eq-eqb _ _ h))
+module _ (r : Seeded) where
+  pub outcome-used : r .refusal ≡ 0 → answered (r .used) ≡ seededOutcome r
+  unfolding seededOutcome
+  outcome-used h = sym (rw (seededOutcome, eq-eqb _ _ h))
 
-  pub answer-refused : (t .refusal ≡ 0 → ⊥) → refused (t .refusal) ≡ answer t
-  unfolding answer
-  answer-refused h = sym (rw (answer, ne-eqb _ _ h))
+  pub outcome-refused : (r .refusal ≡ 0 → ⊥) → refused (r .refusal) ≡ seededOutcome r
+  unfolding seededOutcome
+  outcome-refused h = sym (rw (seededOutcome, ne-eqb _ _ h))

@@ -12,6 +12,7 @@ use Rattle.entry_table.specs.Table.{Table, table, known}
 use Rattle.entry_table.specs.Storing.{adding, usedAfter, wordsAfter}
 use Rattle.entry_table.specs.Carved.{additionOf}
 use Rattle.entry_table.specs.declared.EntryKey.{EntryKey}
+use Rattle.carved_seed.specs.declared.Seeded.{Seeded}
 use Rattle.carved_seed.specs.declared.turns.Bounds.{Bounds}
 use Rattle.carved_seed.specs.declared.turns.Seeding.{Seeding}
 
@@ -86,6 +87,9 @@ turned b s t c = cond (eqb (t .phase) 0) (judged b s t c) (cond (eqb (t .phase) 
 unfoldable pub wordsTurned : List ℕ → Seeding → CarvedMftEntry → List ℕ
 wordsTurned s t c = cond (eqb (t .phase) 0) s (cond (eqb (t .phase) 1) s (wordsInserted s t c))
 
--- what is answered at the end
-unfoldable pub answer : Seeding → Outcome ℕ
-answer t = cond (eqb (t .refusal) 0) (answered (t .used)) (refused (t .refusal))
+-- what is answered at the end, and what it says
+abbrev pub answer : Seeding → Seeded
+answer t = record { used = t .used; refusal = t .refusal }
+
+unfoldable pub seededOutcome : Seeded → Outcome ℕ
+seededOutcome r = cond (eqb (r .refusal) 0) (answered (r .used)) (refused (r .refusal))

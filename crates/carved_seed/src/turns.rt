@@ -4,9 +4,9 @@ ghost use mathlib.Core.Path.{_≡_};
 ghost use Prim.Native.Nat.{_≤_, _<_, _/_};
 ghost use lib.ListN.{length};
 ghost use Rattle.entry_table.specs.Slots.{stride, slotsIn};
-ghost use Rattle.entry_table.specs.Storing.{outcome};
 ghost use Rattle.entry_table.specs.Carved.{additionOf};
 ghost use Rattle.carved_seed.specs.Turns.{toJudge, toCompare, toAdd, toEnd, nextFrom, firstFrom, compareFrom, judged, compared, inserted, wordsInserted, turned, wordsTurned, answer};
+use crate::Seeded;
 use entry_table::EntryInfo;
 use entry_table::EntryKey;
 use entry_table::NamePlace;
@@ -256,11 +256,11 @@ pub(crate) fn turn(slots: &mut [u64], b: Bounds, t: Seeding, c: CarvedMftEntry) 
 }
 
 // What is answered at the end.
-pub(crate) fn finish(t: Seeding) -> Stored
-    ensures { λ r. ⌜ outcome r ≡ answer t ⌝ }
+pub(crate) fn finish(t: Seeding) -> Seeded
+    ensures { λ r. ⌜ r ≡ answer t ⌝ }
 {
-    if t.refusal == 0 {
-        return Stored::Used(t.used);
+    Seeded {
+        used: t.used,
+        refusal: t.refusal,
     }
-    Stored::Refused(t.refusal)
 }
