@@ -1,1 +1,3 @@
 pub mod WayLaws
+pub mod EntryLaws
+pub mod TurnLaws
