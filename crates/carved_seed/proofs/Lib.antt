@@ -1,3 +1,5 @@
 pub mod WayLaws
 pub mod EntryLaws
 pub mod TurnLaws
+pub mod SeedLaws
+pub mod Again
