@@ -3,3 +3,4 @@ pub mod EntryLaws
 pub mod TurnLaws
 pub mod SeedLaws
 pub mod Again
+pub mod FlatLaws
