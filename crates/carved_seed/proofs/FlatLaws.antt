@@ -38,8 +38,7 @@ module _ (journal image slots : List ℕ) (used : ℕ) (entries : List CarvedMft
 
   pub as-seed : (r r′ : Stored) (s s′ : List ℕ) → FromCarved r s → FromFlat r′ s′ → (r ≡ r′) × (s ≡ s′)
   as-seed r r′ s s′ e e′ =
-      let q = seeding-carved (lengthsOf journal image) (table slots used) entries in
-      (
+      let q = seeding-carved (lengthsOf journal image) (table slots used) entries in (
         same-answer r r′ (e .0 ∙ ap usedAfter (sym q) ∙ sym (e′ .0)),
         e .1 ∙ ap (λ (o : Outcome Table). wordsAfter o slots) (sym q) ∙ sym (e′ .1),
       )

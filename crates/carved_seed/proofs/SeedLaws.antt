@@ -42,8 +42,7 @@ module _ (js ms xs : List ℕ) (used : ℕ) (es : List CarvedMftEntry) where
   pub seeds-over : (zs : List ℕ) (t : Seeding) → Seeds zs t → length es ≤ t .at → (r : Seeded) → r ≡ answer t
       → (seededOutcome r ≡ usedAfter (storing (lengthsOf js ms) (table xs used) (map additionOf es))) × (zs ≡ wordsAfter (storing (lengthsOf js ms) (table xs used) (map additionOf es)) xs)
   seeds-over zs t w l r e =
-      let o = over-stored (lengthsOf js ms) (table xs used) (addedAt es) (length es) zs t w l in
-      (
+      let o = over-stored (lengthsOf js ms) (table xs used) (addedAt es) (length es) zs t w l in (
         ap seededOutcome e ∙ o .0 ∙ ap (λ (all : List Addition). usedAfter (storing (lengthsOf js ms) (table xs used) all)) (whole-entries es),
         o .1 ∙ ap (λ (all : List Addition). wordsAfter (storing (lengthsOf js ms) (table xs used) all) xs) (whole-entries es),
       )

@@ -241,12 +241,11 @@ module _ (ls : Lengths) (t₀ : Table) (f : ℕ → Addition) (count : ℕ) wher
       where
         go : (o : Outcome Table) → adding (table s used) (additionOf c ∷ []) ≡ o → Near (count - at) (wordsAfter o s) (afterAdding b (toAdd at used) (usedAfter o))
         go (refused n) q = absurd (rows-refused (w .added) h e refl (ap usedAfter q))
-        go (answered u) q =
-            (
-              inserting (at + 1) (u .used) refl
+        go (answered u) q = (
+          inserting (at + 1) (u .used) refl
               (record { all = w .all; room = w .room; added = rows-added (w .added) h e refl (ap usedAfter q) (ap (λ (o : Outcome Table). wordsAfter o s) (sym q)) }),
-              omega arith,
-            )
+          omega arith,
+        )
 
     -- what a turn asks
     pub stands-asks : (s : List ℕ) (t : Seeding) → Stands ls t₀ f count s t → t .at < count → (t .used ≤ slotsIn s) × ((t .at < b .count) × ((t .i < b .count) × (t .n ≤ t .i)))

@@ -25,7 +25,9 @@ use walk::TABLE_FULL;
 
 // What a turn does with its entry: judges it, compares it with the one that is judged, or adds it.
 const JUDGE: u32 = 0;
+
 const COMPARE: u32 = 1;
+
 const ADD: u32 = 2;
 
 // What stays the same in all turns: the number of entries, and the lengths of journal and image.
