@@ -4,9 +4,9 @@ use mathlib.Core.Path.{_≡_, refl, sym, _∙_, ap, subst}
 use mathlib.Core.List.{List, map}
 use lib.ListN.{length}
 use Rattle.mft_carver.specs.declared.CarvedMftEntry.{CarvedMftEntry}
-use Rattle.entry_table.specs.Names.{Lengths, lengths, lengthsOf}
-use Rattle.entry_table.specs.Slots.{slotsIn, rows}
-use Rattle.entry_table.specs.Table.{Table, table, Addition}
+use Rattle.entry_table.specs.Names.{lengthsOf}
+use Rattle.entry_table.specs.Slots.{slotsIn}
+use Rattle.entry_table.specs.Table.{table, Addition}
 use Rattle.entry_table.specs.Storing.{storing, usedAfter, wordsAfter}
 use Rattle.entry_table.specs.Carved.{additionOf}
 use Rattle.carved_seed.specs.declared.Seeded.{Seeded}

@@ -1,6 +1,6 @@
 -- Where seeding stands before each turn, and that a turn leads to where it stands next, nearer to its end. Assumes nothing.
-use Prim.Native.Nat.{ℕ, zero, suc, _+_, _-_, _*_, _≤_, _<_}
-use mathlib.Core.Path.{_≡_, refl, ap, sym, _∙_, subst}
+use Prim.Native.Nat.{ℕ, suc, _+_, _-_, _*_, _≤_, _<_}
+use mathlib.Core.Path.{_≡_, refl, ap, sym, _∙_}
 use mathlib.Core.List.{List, [], _∷_}
 use mathlib.Core.Bool.{Bool, true, false, cond, true≢false}
 use native.Mathlib.Omega.{arith}
@@ -17,7 +17,6 @@ use Rattle.entry_table.specs.Table.{Table, table, find, known, Addition}
 use Rattle.entry_table.specs.Storing.{newKeys, seen, keysOf, namesOf, adding, storing, usedAfter, wordsAfter}
 use Rattle.entry_table.specs.Carved.{additionOf}
 use Rattle.entry_table.specs.declared.EntryKey.{EntryKey}
-use Rattle.entry_table.specs.declared.NamePlace.{NamePlace}
 use Rattle.entry_table.specs.declared.slots.Found.{Found}
 use Rattle.entry_table.specs.declared.slots.Found.the-variants.{At, Nothing}
 use Rattle.entry_table.proofs.RowLaws.{map-rows}
@@ -63,10 +62,6 @@ unknown-looking t keys k i h = go (find t k) refl
     go : (x : Found) → find t k ≡ x → Looking t keys k 0 i
     go (At m) e = let y : known t k ≡ true = rw e in absurd (true≢false (sym y ∙ h))
     go Nothing e = looking-start t keys k i refl e
-
--- the names of the additions
-abbrev nameOf : (ℕ → Addition) → ℕ → NamePlace
-nameOf f j = f j .info .name
 
 -- The entries before i are judged: their names are inside, and n of their keys are different and new, where that is counted.
 pub record Judged (ls : Lengths) (t₀ : Table) (f : ℕ → Addition) (count i n : ℕ) : Type 0 where

@@ -2,15 +2,14 @@
 use Prim.Native.Nat.{ℕ, _+_, _-_, _≤_, _<_}
 use mathlib.Core.Path.{_≡_, refl, ap, sym, _∙_}
 use mathlib.Core.List.{List, [], _∷_}
-use mathlib.Core.Bool.{Bool, true, false, cond}
+use mathlib.Core.Bool.{Bool, true, false}
 use borrow.Author.Tests.{lt-ltb, le-ltb, le-leb, lt-leb, eq-eqb, ne-eqb}
-use lib.Dec.{ltb, leb, eqb}
 use Rattle.walk.specs.Outcome.{Outcome, refused, answered}
 use Rattle.walk.specs.Refusals.{badState, nameOutside, tableFull}
 use Rattle.mft_carver.specs.declared.CarvedMftEntry.{CarvedMftEntry}
 use Rattle.entry_table.specs.Names.{lengths, inside}
 use Rattle.entry_table.specs.Slots.{slotsIn, sameKey}
-use Rattle.entry_table.specs.Table.{Table, table, find, isAt, Addition, addition}
+use Rattle.entry_table.specs.Table.{table, find, Addition, addition}
 use Rattle.entry_table.specs.Storing.{adding, usedAfter, wordsAfter}
 use Rattle.entry_table.specs.Carved.{additionOf}
 use Rattle.entry_table.specs.declared.EntryKey.{EntryKey}
@@ -22,7 +21,7 @@ use Rattle.entry_table.proofs.AdditionLaws.{same-addition}
 use Rattle.carved_seed.specs.declared.Seeded.{Seeded}
 use Rattle.carved_seed.specs.declared.turns.Bounds.{Bounds}
 use Rattle.carved_seed.specs.declared.turns.Seeding.{Seeding}
-use Rattle.carved_seed.specs.Turns.{toJudge, toCompare, toAdd, toEnd, nextFrom, firstFrom, compareFrom, judged, compared, addedTo, afterAdding, inserted, wordsInserted, turned, wordsTurned, seededOutcome}
+use Rattle.carved_seed.specs.Turns.{toJudge, toCompare, toAdd, toEnd, nextFrom, firstFrom, compareFrom, judged, compared, afterAdding, inserted, wordsInserted, turned, wordsTurned, seededOutcome}
 
 module _ (count slots used i n : ℕ) {r : Seeding} where
   pub next-judge : i < count → r ≡ toJudge i n used → r ≡ nextFrom count slots used i n

@@ -1,7 +1,7 @@
 -- Seeding one entry a turn: the state that each turn leads to, and the words of the table after it. All entries are judged, and then added.
 use Prim.Native.Nat.{ℕ, _+_, _-_}
 use mathlib.Core.List.{List, [], _∷_}
-use mathlib.Core.Bool.{Bool, cond}
+use mathlib.Core.Bool.{cond}
 use lib.Dec.{ltb, leb, eqb}
 use Rattle.walk.specs.Outcome.{Outcome, refused, answered}
 use Rattle.walk.specs.Refusals.{badState, nameOutside, tableFull}

@@ -5,10 +5,10 @@
 --     more, ends   a turn with an entry, and the turn that leaves the loop, with the rest of the body
 -- Assumes nothing.
 use mathlib.Core.Path.{_≡_, refl, sym, _∙_, ap, subst}
-use Prim.Native.Nat.{ℕ, _<_, _≤_, _^_, _*_, _+_, _/_}
+use Prim.Native.Nat.{ℕ, _<_, _≤_, _^_, _*_, _/_}
 use native.Mathlib.Omega.{arith}
 use mathlib.Core.Bool.{Bool, true, false, not}
-use mathlib.Core.List.{List, [], _∷_, map}
+use mathlib.Core.List.{List, [], _∷_}
 use mathlib.Core.WellFounded.{WellFounded, InvImage·wf}
 use lib.Dec.{T as Holds, ltb, ltb→lt, nltb→le}
 use lib.ListN.{length}
@@ -52,7 +52,7 @@ use denote.Exit.{yes}
 use Rattle.mft_carver.specs.declared.CarvedMftEntry.{CarvedMftEntry}
 use Rattle.mft_carver.proofs.CarvedMftEntry as T
 use Rattle.mft_carver.proofs.CarvedMftEntry.Laws as T′
-use Rattle.entry_table.specs.Slots.{stride, slotsIn}
+use Rattle.entry_table.specs.Slots.{stride}
 use Rattle.carved_seed.specs.declared.Seeded.{Seeded}
 use Rattle.carved_seed.specs.declared.turns.Bounds.{Bounds}
 use Rattle.carved_seed.specs.declared.turns.Seeding.{Seeding}
