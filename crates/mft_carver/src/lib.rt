@@ -31,6 +31,7 @@ const FIRST_ATTR_HIGH: usize = 1015;
 const MAX_ATTR_WALK: usize = 20;
 
 // A carved MFT entry.
+#[repr(C)]
 pub struct CarvedMftEntry {
     // Where it stands in the image.
     pub offset: usize,

@@ -1,0 +1,75 @@
+// Seeding of the lookup table from a lent slice of carved entries, as the image carver's own struct has them.
+//
+// Every function here is proved. The public calls have no `requires`: any table and any entries get an answer. They answer and
+// write what `entry_table::seed` does on the flat list of the same entries.
+pub mod turns;
+
+ghost use mathlib.Core.Path.{_≡_};
+ghost use mathlib.Core.List.{map};
+ghost use Rattle.entry_table.specs.Names.{lengthsOf};
+ghost use Rattle.entry_table.specs.Table.{table};
+ghost use Rattle.entry_table.specs.Storing.{storing, usedAfter, wordsAfter, outcome};
+ghost use Rattle.entry_table.specs.Carved.{additionOf};
+ghost use Rattle.carved_seed.specs.Turns.{seededOutcome};
+use crate::turns::Bounds;
+use crate::turns::begin;
+use crate::turns::finish;
+use crate::turns::turn;
+use entry_table::Stored;
+use mft_carver::CarvedMftEntry;
+
+// What seeding answers, in numbers: the used slots, and 0 or the number of a refusal.
+#[repr(C)]
+pub struct Seeded {
+    pub used: usize,
+    pub refusal: u32,
+}
+
+// Stores carved entries, in turn, each where its key is new.
+// Refused, with nothing written: 9 used is above the slots, 7 a name's place passes the image, also of a known entry, 6 the
+// different new keys are more than the slots that are left.
+pub fn seed_from_carved(
+    journal: &[u8],
+    image: &[u8],
+    slots: &mut [u64],
+    used: usize,
+    entries: &[CarvedMftEntry],
+) -> Stored
+    ensures { λ r. ⌜ (outcome r ≡ usedAfter (storing (lengthsOf (now (journal .entry)) (now (image .entry))) (table (now (slots .entry)) used) (map additionOf (now (entries .entry)))))
+        × (now (slots .exit) ≡ wordsAfter (storing (lengthsOf (now (journal .entry)) (now (image .entry))) (table (now (slots .entry)) used) (map additionOf (now (entries .entry)))) (now (slots .entry))) ⌝ }
+{
+    stored(seed_entries(journal, image, slots, used, entries))
+}
+
+// The same, answered in numbers.
+pub fn seed_entries(
+    journal: &[u8],
+    image: &[u8],
+    slots: &mut [u64],
+    used: usize,
+    entries: &[CarvedMftEntry],
+) -> Seeded
+    ensures { λ r. ⌜ (seededOutcome r ≡ usedAfter (storing (lengthsOf (now (journal .entry)) (now (image .entry))) (table (now (slots .entry)) used) (map additionOf (now (entries .entry)))))
+        × (now (slots .exit) ≡ wordsAfter (storing (lengthsOf (now (journal .entry)) (now (image .entry))) (table (now (slots .entry)) used) (map additionOf (now (entries .entry)))) (now (slots .entry))) ⌝ }
+{
+    let b = Bounds {
+        count: entries.len(),
+        journal_length: journal.len(),
+        image_length: image.len(),
+    };
+    let mut t = begin(entries.len(), slots.len(), used);
+    while t.at < entries.len() {
+        t = turn(slots, b, t, entries[t.at]);
+    }
+    finish(t)
+}
+
+// The numbers as the table's own answer.
+fn stored(s: Seeded) -> Stored
+    ensures { λ r. ⌜ outcome r ≡ seededOutcome s ⌝ }
+{
+    if s.refusal == 0 {
+        return Stored::Used(s.used);
+    }
+    Stored::Refused(s.refusal)
+}
