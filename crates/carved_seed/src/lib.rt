@@ -38,11 +38,12 @@ pub fn seed_from_carved(
     ensures { λ r. ⌜ (outcome r ≡ usedAfter (storing (lengthsOf (now (journal .entry)) (now (image .entry))) (table (now (slots .entry)) used) (map additionOf (now (entries .entry)))))
         × (now (slots .exit) ≡ wordsAfter (storing (lengthsOf (now (journal .entry)) (now (image .entry))) (table (now (slots .entry)) used) (map additionOf (now (entries .entry)))) (now (slots .entry))) ⌝ }
 {
-    stored(seed_entries(journal, image, slots, used, entries))
+    stored(table_seed_entries(journal, image, slots, used, entries))
 }
 
 // The same, answered in numbers.
-pub fn seed_entries(
+#[no_mangle]
+pub extern "C" fn table_seed_entries(
     journal: &[u8],
     image: &[u8],
     slots: &mut [u64],

@@ -39,6 +39,7 @@ pub const NOT_A_RECORD: u32 = 12;
 pub const DOMAIN: usize = 1073741824;
 
 // An offset and a length in bytes, in a lent slice. An empty name has place 0, 0.
+#[repr(C)]
 pub struct Place {
     pub offset: usize,
     pub length: usize,

@@ -1,4 +1,4 @@
--- `seed_from_carved` meets its contract: a walk of its MIR, by hand. All references go to `seed_entries` at their own lifetimes, shares and names: slots is given up for good (`gave-slice`), of the others copies are kept. `stored` makes the answer of the numbers.
+-- `seed_from_carved` meets its contract: a walk of its MIR, by hand. All references go to `table_seed_entries` at their own lifetimes, shares and names: slots is given up for good (`gave-slice`), of the others copies are kept. `stored` makes the answer of the numbers.
 -- Assumes nothing.
 use mathlib.Core.Path.{_≡_, refl, _∙_}
 use Prim.Native.Nat.{ℕ, _<_, _^_}
@@ -52,10 +52,10 @@ use Rattle.carved_seed.specs.declared.Seeded.{Seeded}
 use Rattle.carved_seed.specs.Turns.{seededOutcome}
 use Rattle.carved_seed.proofs.Seeded as R
 use Rattle.carved_seed.proofs.Seeded.Laws as R′
-use Rattle.carved_seed.proofs.seed_entries as entries
-use Rattle.carved_seed.proofs.seed_entries.Symbol as entries-def
-use Rattle.carved_seed.proofs.seed_entries.Symbol.{name as #seed-entries}
-use Rattle.carved_seed.proofs.seed_entries.Met as entries-thm
+use Rattle.carved_seed.proofs.table_seed_entries as entries
+use Rattle.carved_seed.proofs.table_seed_entries.Symbol as entries-def
+use Rattle.carved_seed.proofs.table_seed_entries.Symbol.{name as #table-seed-entries}
+use Rattle.carved_seed.proofs.table_seed_entries.Met as entries-thm
 use Rattle.carved_seed.proofs.stored as stored
 use Rattle.carved_seed.proofs.stored.Symbol as stored-def
 use Rattle.carved_seed.proofs.stored.Symbol.{name as #stored}
@@ -103,7 +103,7 @@ module _ {M : Type 1} (𝓤 : URA M) (H : Heap 𝓤) (A : Atoms 𝓤) (W : Given
   abbrev Post : Val → SProp 𝓤
   Post = walkOf 𝓤 H A self.ended stayed (self.clauses 𝓤 H A mem run) .post (((κ₀, (κ₁, (κ, (κ₃, tt)))), (q₀, (q₁, (q, (q₃, tt)))), tt, a, at), tt)
 
-  -- the signature of `seed_entries` is this function's, and so is what its triple binds outside
+  -- the signature of `table_seed_entries` is this function's, and so is what its triple binds outside
   abbrev to : Entries 𝓤 H A mem run .Ghost
   to = (((κ₀, (κ₁, (κ, (κ₃, tt)))), (q₀, (q₁, (q, (q₃, tt)))), tt, a, at), tt)
 
@@ -144,7 +144,7 @@ module _ {M : Type 1} (𝓤 : URA M) (H : Heap 𝓤) (A : Atoms 𝓤) (W : Given
   typed-d : (r : Stored) (u : Val) → Is D.the-row r (u ∷ []) → Holds (hasTy D′.mir u) × WT u
   typed-d r u is = EL.lawful D.the-type D′.the-laws 𝓤 H A W tt .typed r (u ∷ []) is .0
 
-  -- what is passed is what `seed_entries` asks, and copies of the shared slices are kept
+  -- what is passed is what `table_seed_entries` asks, and copies of the shared slices are kept
   apart : ent 𝓤 (⋆ 𝓤 H A (Tokens ∷ ‵ Owns ∷ [])) (sep 𝓤 (Entries 𝓤 H A mem run .pre to) (sep 𝓤 (sem 𝓤 H A OwnJ) (sep 𝓤 (sem 𝓤 H A OwnM) (sem 𝓤 H A OwnE))))
   apart =
       qed W (Tokens ∷ ‵ Owns ∷ []) ∵ move ! (1 ∷ []) $ fsplit ! $ move ! (1 ∷ []) $ fsplit ! $ move ! (1 ∷ []) $ fsplit ! $ move ! (1 ∷ []) $ fsplit ! $ move ! (1 ∷ []) $ fsplit ! $
@@ -167,7 +167,7 @@ module _ {M : Type 1} (𝓤 : URA M) (H : Heap 𝓤) (A : Atoms 𝓤) (W : Given
       -- [the last list; the answer; journal; image; entries]
       nothing ! $ move ! (5 ∷ 0 ∷ []) $ fjoin ! $ owned ! usize (Is usize) (uint-makes 𝓤 H A W w64) used _ (refl, used-fits) $ fjoin ! $ move ! (1 ∷ 0 ∷ []) $ fjoin ! $ move ! (3 ∷ 0 ∷ []) $ fjoin ! $ move ! (2 ∷ 0 ∷ []) $ fjoin ! $ frame ! $ done !
 
-  walk : (𝓣 : Tables 𝓤 H) → Triple 𝓤 (𝓣 .C #seed-entries) (Entries 𝓤 H A mem run) → Triple 𝓤 (𝓣 .C #stored) (Answered 𝓤 H A mem run)
+  walk : (𝓣 : Tables 𝓤 H) → Triple 𝓤 (𝓣 .C #table-seed-entries) (Entries 𝓤 H A mem run) → Triple 𝓤 (𝓣 .C #stored) (Answered 𝓤 H A mem run)
       → Room u8 (length (yj .now)) → Room u8 (length (ym .now)) → Room u64 (length (x .now)) → used < 2 ^ 64 → Room T.the-row (length (y .now))
       → ent 𝓤 (onEntry 𝓤 H A self.signature (κ₀, (κ₁, (κ, (κ₃, tt)))) (q₀, (q₁, (q, (q₃, tt)))) a at) (WpFn 𝓤 H (𝓣 .C) (𝓣 .Λ) code.function (vj ∷ vm ∷ v ∷ vint w64 used ∷ w ∷ []) Post)
   walk 𝓣 known known-stored roomj roomm room used-fits room₁ =
@@ -178,7 +178,7 @@ module _ {M : Type 1} (𝓤 : URA M) (H : Heap 𝓤) (A : Atoms 𝓤) (W : Given
       assigns ! (addr ! (from ! (fld ! refl (hop ! (look-in ! 10 (sub ! 0 refl (whole !))) (stop !))))) (from ! (stop !)) (init ! 2 refl (tt, tt)) $
       assigns ! (agg ! (and-then ! (load ! (from ! (stop !)) (look ! 2 refl)) (and-then ! (load ! (from ! (fld ! refl (stop !))) (look-in ! 10 (sub ! 1 refl (whole !)))) (no-more !)))) (from ! (stop !)) (init ! 0 refl (tt, (tt, (record { fits = room .0 }, tt)))) $
       move ! (18 ∷ 19 ∷ []) $ join ! $ use1 W (raw (Entries 𝓤 H A mem run .pre to) ⊛ (‵ OwnJ ⊛ (‵ OwnM ⊛ ‵ OwnE))) apart $ split ! $ move ! (1 ∷ []) $ split ! $ move ! (1 ∷ []) $ split ! $ move ! (3 ∷ 2 ∷ 0 ∷ 1 ∷ []) $
-      -- [what `seed_entries` asks; journal; image; entries; _8; …; _0; …]
+      -- [what `table_seed_entries` asks; journal; image; entries; _8; …; _0; …]
       calls-at ! (fmOf 𝓤 H (W .laws) 𝓣) (Entries 𝓤 H A mem run) known to (and-then ! (load ! (from ! (stop !)) (look ! 18 refl)) (and-then ! (load ! (from ! (stop !)) (look ! 16 refl)) (and-then ! (load ! (from ! (stop !)) (look ! 4 refl)) (and-then ! (load ! (from ! (stop !)) (look ! 12 refl)) (and-then ! (load ! (from ! (stop !)) (look ! 10 refl)) (no-more !)))))) (λ u.
       use1 W (later (some (λ (r : Seeded). (Tokens ⊛ ‵ (OwnR r u)) ⊛ raw (ensured 𝓤 H A entries.ended (entries.clauses 𝓤 H A mem run) (κ₀, (κ₁, (κ, (κ₃, tt)))) a tt r)))) (id⊢ 𝓤 _) $ await ! tt $ pick ! (λ r.
       split ! $ move ! (1 ∷ []) $ use1 W (some (λ (ls : Unit {0} × (Unit {0} × (List ℕ × (Unit {0} × (Unit {0} × Unit {0}))))). ‵ (lasts entries.ended (κ₀, (κ₁, (κ, (κ₃, tt)))) a ls) ⊛ raw (fact 𝓤 (Said (seededOutcome r) (ls .1 .1 .0))))) (id⊢ 𝓤 _) $ pick ! (λ ls.
@@ -197,7 +197,7 @@ module _ {M : Type 1} (𝓤 : URA M) (H : Heap 𝓤) (A : Atoms 𝓤) (W : Given
       keep ! (1 ∷ 2 ∷ 0 ∷ 4 ∷ 5 ∷ 6 ∷ []) $ by ! (exits used-fits r′ u′ (ls .1 .1 .0) l (e′ ∙ e .0, e .1))))))))))))))))))))))
 
 module _ {M : Type 1} (𝓤 : URA M) (H : Heap 𝓤) (A : Atoms 𝓤) (W : Given 𝓤 H A) (mem : Memory → SProp 𝓤) (run : Routine → Fun 𝓤) (𝓣 : Tables 𝓤 H)
-    (known : Triple 𝓤 (𝓣 .C #seed-entries) (Entries 𝓤 H A mem run)) (known-stored : Triple 𝓤 (𝓣 .C #stored) (Answered 𝓤 H A mem run)) where
+    (known : Triple 𝓤 (𝓣 .C #table-seed-entries) (Entries 𝓤 H A mem run)) (known-stored : Triple 𝓤 (𝓣 .C #stored) (Answered 𝓤 H A mem run)) where
   walks : Walks 𝓤 H A self.ended stayed (WpFn 𝓤 H (𝓣 .C) (𝓣 .Λ) code.function) (self.clauses 𝓤 H A mem run)
   walks = walked 𝓤 H A self.ended stayed (self.clauses 𝓤 H A mem run) (WpFn 𝓤 H (𝓣 .C) (𝓣 .Λ) code.function)
       (λ κs. (slice-vals, (slice-vals, (slice-vals, (uint-vals w64, (slice-vals, tt))))))
@@ -218,5 +218,5 @@ seed-from-carved-spec 𝓤 H 𝓜 𝓖 𝓡 =
     entered 𝓤 H (tripleOf 𝓤 H (𝓖 .A) self.signature (self.spec 𝓤 H (𝓖 .A) (𝓜 .mem) (𝓡 .run)))
     (tables 𝓤 H 𝓜 𝓡 code.env .C) (tables 𝓤 H 𝓜 𝓡 code.env .Λ) #seed-from-carved code.function (code.unfolded 𝓤 H 𝓜 𝓡)
     (meets 𝓤 H (𝓖 .A) (givenOf 𝓤 H 𝓜 𝓖) (𝓜 .mem) (𝓡 .run) (tablesOf 𝓤 H 𝓜 (tables 𝓤 H 𝓜 𝓡 code.env))
-    (cited 𝓤 H (Entries 𝓤 H (𝓖 .A) (𝓜 .mem) (𝓡 .run)) 𝓜 𝓡 code.env #seed-entries entries-def.routine code.calls-carved-seed·seed-entries (entries-thm.met 𝓤 H 𝓜 𝓖 𝓡))
+    (cited 𝓤 H (Entries 𝓤 H (𝓖 .A) (𝓜 .mem) (𝓡 .run)) 𝓜 𝓡 code.env #table-seed-entries entries-def.routine code.calls-carved-seed·table-seed-entries (entries-thm.met 𝓤 H 𝓜 𝓖 𝓡))
     (cited 𝓤 H (Answered 𝓤 H (𝓖 .A) (𝓜 .mem) (𝓡 .run)) 𝓜 𝓡 code.env #stored stored-def.routine code.calls-carved-seed·stored (stored-thm.met 𝓤 H 𝓜 𝓖 𝓡)))

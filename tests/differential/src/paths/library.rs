@@ -53,7 +53,32 @@ pub struct Slots<'a> {
 pub type Key = [u64; 2];
 pub type Place = [u64; PLACE_WORDS];
 
+/// A carved entry as the image carver's own struct has it.
+#[repr(C)]
+#[derive(Debug, Clone, Copy)]
+pub struct CarvedEntry {
+    pub offset: usize,
+    pub entry_number: u64,
+    pub sequence_number: u16,
+    pub filename_offset: usize,
+    pub filename_length: usize,
+    pub parent_entry: u64,
+    pub parent_sequence: u16,
+    pub is_directory: bool,
+    pub is_in_use: bool,
+}
+
+/// What seeding from such entries answers: the used slots, and 0 or the number of a refusal.
+#[repr(C)]
+#[derive(Debug, Clone, Copy)]
+pub struct Seeded {
+    pub used: usize,
+    pub refusal: u32,
+}
+
 mod declared {
+    use super::{CarvedEntry, Seeded};
+
     extern "C" {
         pub fn table_insert(
             journal: *const u8,
@@ -106,6 +131,18 @@ mod declared {
             out: *mut u64,
             out_len: usize,
         ) -> u32;
+
+        pub fn table_seed_entries(
+            journal: *const u8,
+            journal_len: usize,
+            image: *const u8,
+            image_len: usize,
+            slots: *mut u64,
+            slots_len: usize,
+            used: usize,
+            entries: *const CarvedEntry,
+            entries_len: usize,
+        ) -> Seeded;
 
         pub fn path_resolve(
             journal: *const u8,
@@ -231,6 +268,24 @@ pub fn table_seed(names: Sources, slots: &mut [u64], used: usize, entries: &[u64
             entries.len(),
             out.as_mut_ptr(),
             out.len(),
+        )
+    }
+}
+
+/// The same from entries as structs.
+pub fn table_seed_entries(names: Sources, slots: &mut [u64], used: usize, entries: &[CarvedEntry]) -> Seeded {
+    // SAFETY: as above; the struct has the layout of the library's.
+    unsafe {
+        declared::table_seed_entries(
+            names.journal.as_ptr(),
+            names.journal.len(),
+            names.image.as_ptr(),
+            names.image.len(),
+            slots.as_mut_ptr(),
+            slots.len(),
+            used,
+            entries.as_ptr(),
+            entries.len(),
         )
     }
 }

@@ -2,15 +2,15 @@
 //! compared. A refused call changes nothing of ours and is left out on the Rust's side.
 
 use super::library::{
-    path_chain, path_resolve, table_insert, table_insert_if_absent, table_seed, Key, Slots, Sources, CHAIN_WORDS,
-    PATH_FIELDS, SLOT_FIELDS, SLOT_WORDS, TABLE_FIELDS,
+    path_chain, path_resolve, table_insert, table_insert_if_absent, table_seed, table_seed_entries, CarvedEntry, Key,
+    Slots, Sources, CHAIN_WORDS, PATH_FIELDS, SLOT_FIELDS, SLOT_WORDS, TABLE_FIELDS,
 };
 use super::lists::{word_against, Lists, Room, Written};
 use super::model::{self, bytes_at, carved, key, parent, place, Chain, Slot, Table};
 use crate::carve::CarvedMftEntry;
 use crate::difference::Finding;
 use crate::lent::{beginning, untouched, BEHIND};
-use crate::library::{ACCEPTED, NO_ROOM, TEXT_TOO_SMALL};
+use crate::library::{ACCEPTED, ENTRY_WORDS, NO_ROOM, TEXT_TOO_SMALL};
 use crate::names::comparison::text;
 use crate::rewind::{EntryInfo, EntryKey, RewindEngine};
 use std::collections::HashSet;
@@ -139,6 +139,7 @@ impl<'a> Pair<'a> {
             true => Err(NO_ROOM),
             false => self.model.store(given.names, given.used, &slots, replace),
         };
+        let structs = self.seed_structs(given, added);
         let mut answer: Vec<u64> = (0..out + BEHIND).map(untouched).collect();
         let number = self.call(given, added, &mut answer[..out]);
         let used = expected.map(|used| used as u64);
@@ -155,6 +156,16 @@ impl<'a> Pair<'a> {
                 rust: format!("the scope: {expected:?}, {}", shown(&self.model, self.used)),
                 ours: format!("{number}, words {answer:?}"),
             });
+        }
+        if let Some((answer, slots)) = structs.filter(|_| out >= STORED) {
+            if answer != expected || slots != self.slots {
+                return Err(Finding {
+                    call: format!("from structs: {added:?}, {} used", given.used),
+                    what: "it answers or leaves something else than seeding from the flat list".to_string(),
+                    rust: format!("the scope: {expected:?}, {}", shown(&self.model, self.used)),
+                    ours: format!("{answer:?}, words {slots:?}"),
+                });
+            }
         }
         let Ok(used) = expected else { return Ok(false) };
         self.used = used;
@@ -173,6 +184,25 @@ impl<'a> Pair<'a> {
             Added::One { slot, .. } => table_insert_if_absent(given.names, lent, given.used, &slot, out),
             Added::Listed { entries, .. } => table_seed(given.names, lent, given.used, entries, out),
         }
+    }
+
+    /// Seeds a copy of our table from the same entries as structs, where these can hold them: the used slots or the
+    /// refusal, and the words.
+    fn seed_structs(&self, given: Given, added: Added) -> Option<(Result<usize, u32>, Vec<u64>)> {
+        let Added::Listed { entries, .. } = added else {
+            return None;
+        };
+        let structs: Vec<CarvedEntry> = entries
+            .chunks_exact(ENTRY_WORDS)
+            .map(as_struct)
+            .collect::<Option<Vec<CarvedEntry>>>()?;
+        let mut slots = self.slots.clone();
+        let seeded = table_seed_entries(given.names, &mut slots[..self.model.words.len()], given.used, &structs);
+        let answer = match seeded.refusal {
+            ACCEPTED => Ok(seeded.used),
+            refusal => Err(refusal),
+        };
+        Some((answer, slots))
     }
 
     /// The Rust's table has as many keys as ours.
@@ -357,4 +387,19 @@ pub fn rust_key([entry, sequence]: Key) -> Option<EntryKey> {
 fn shown(table: &model::Table, used: usize) -> String {
     let slots: Vec<Slot> = (0..used.min(table.slots())).map(|at| table.slot(at)).collect();
     format!("{} slots, used {:?}", table.slots(), beginning(&slots))
+}
+
+/// A carved entry's words as the struct, where its sequences have 16 bits.
+fn as_struct(words: &[u64]) -> Option<CarvedEntry> {
+    Some(CarvedEntry {
+        offset: words[0] as usize,
+        entry_number: words[1],
+        sequence_number: words[2].try_into().ok()?,
+        filename_offset: words[3] as usize,
+        filename_length: words[4] as usize,
+        parent_entry: words[5],
+        parent_sequence: words[6].try_into().ok()?,
+        is_directory: words[7] != 0,
+        is_in_use: words[8] != 0,
+    })
 }

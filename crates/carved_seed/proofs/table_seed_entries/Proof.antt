@@ -1,4 +1,4 @@
--- `seed_entries` meets its contract: a walk of its MIR, by hand, with a loop. Each turn copies the entry that the state says out of the slice, lends slots again for a call of `turn`, and takes it back.
+-- `table_seed_entries` meets its contract: a walk of its MIR, by hand, with a loop. Each turn copies the entry that the state says out of the slice, lends slots again for a call of `turn`, and takes it back.
 -- All that the proof knows of `begin`, `turn` and `finish` is that they meet their contracts.
 --     State        what a turn changes: the state t and the list in slots, with where seeding stands there
 --     I            the loop's invariant: what is owned, and the locals
@@ -79,11 +79,11 @@ use Rattle.carved_seed.proofs.turns.finish as finish
 use Rattle.carved_seed.proofs.turns.finish.Symbol as finish-def
 use Rattle.carved_seed.proofs.turns.finish.Symbol.{name as #finish}
 use Rattle.carved_seed.proofs.turns.finish.Met as finish-thm
-use Rattle.carved_seed.proofs.seed_entries.Key.{name as #seed-entries}
-use Rattle.carved_seed.proofs.seed_entries as self
-use Rattle.carved_seed.proofs.seed_entries.Statement as stated
-use Rattle.carved_seed.proofs.seed_entries.Code as code
-use Rattle.carved_seed.proofs.seed_entries.Code.Mir as body
+use Rattle.carved_seed.proofs.table_seed_entries.Key.{name as #table-seed-entries}
+use Rattle.carved_seed.proofs.table_seed_entries as self
+use Rattle.carved_seed.proofs.table_seed_entries.Statement as stated
+use Rattle.carved_seed.proofs.table_seed_entries.Code as code
+use Rattle.carved_seed.proofs.table_seed_entries.Code.Mir as body
 
 -- ---- what a turn changes, with what is known of it
 record State (js ms xs : List ℕ) (used : ℕ) (es : List CarvedMftEntry) : Type 0 where
@@ -472,11 +472,11 @@ module _ {M : Type 1} (𝓤 : URA M) (H : Heap 𝓤) (A : Atoms 𝓤) (W : Given
       (goes-none-slice 𝓤 H A W 4 (0 ∷ []) tt (plain (λ _. u8)) yes, (goes-none-slice 𝓤 H A W 4 (1 ∷ []) tt (plain (λ _. u8)) yes, (goes-slice 𝓤 H A W 4 2 tt (plain (λ _. u64)), (goes-none 𝓤 H A W 4 (λ _. usize) yes (λ κs x f. refl), (goes-none-slice 𝓤 H A W 4 (3 ∷ []) tt (plain (λ _. T.the-row)) yes, tt)))))
       (self.clauses 𝓤 H A mem run) (WpFn 𝓤 H (𝓣 .C) (𝓣 .Λ) code.function) (WpFn-mono 𝓤 H (W .laws) 𝓣 code.function) walks
 
-pub seed-entries-spec : {M : Type 1} → stated.statement M
+pub table-seed-entries-spec : {M : Type 1} → stated.statement M
 unfolding code.routine tablesOf
-seed-entries-spec 𝓤 H 𝓜 𝓖 𝓡 =
+table-seed-entries-spec 𝓤 H 𝓜 𝓖 𝓡 =
     entered 𝓤 H (tripleOf 𝓤 H (𝓖 .A) self.signature (self.spec 𝓤 H (𝓖 .A) (𝓜 .mem) (𝓡 .run)))
-    (tables 𝓤 H 𝓜 𝓡 code.env .C) (tables 𝓤 H 𝓜 𝓡 code.env .Λ) #seed-entries code.function (code.unfolded 𝓤 H 𝓜 𝓡)
+    (tables 𝓤 H 𝓜 𝓡 code.env .C) (tables 𝓤 H 𝓜 𝓡 code.env .Λ) #table-seed-entries code.function (code.unfolded 𝓤 H 𝓜 𝓡)
     (meets 𝓤 H (𝓖 .A) (givenOf 𝓤 H 𝓜 𝓖) (𝓜 .mem) (𝓡 .run) (tablesOf 𝓤 H 𝓜 (tables 𝓤 H 𝓜 𝓡 code.env))
     (cited 𝓤 H (Begin 𝓤 H (𝓖 .A) (𝓜 .mem) (𝓡 .run)) 𝓜 𝓡 code.env #begin begin-def.routine code.calls-carved-seed·turns·begin (begin-thm.met 𝓤 H 𝓜 𝓖 𝓡))
     (cited 𝓤 H (OneTurn 𝓤 H (𝓖 .A) (𝓜 .mem) (𝓡 .run)) 𝓜 𝓡 code.env #turn turn-def.routine code.calls-carved-seed·turns·turn (turn-thm.met 𝓤 H 𝓜 𝓖 𝓡))
