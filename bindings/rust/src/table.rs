@@ -317,20 +317,20 @@ mod tests {
         }
     }
 
-    /// What both ways to rewind give for some records, and the paths of the table that they leave.
-    fn both_ways(records: &[UsnRecord]) -> [(Vec<(String, String)>, Vec<String>); 2] {
+    /// What both ways to rewind give for some records: their paths, and then those of the table that they leave.
+    fn both_ways(records: &[UsnRecord]) -> [Vec<String>; 2] {
         let names: Vec<_> = records.iter().map(|record| encoded(&record.filename)).collect();
         [Table::rewind_written, Table::rewind_by_entries].map(|way| {
             let mut table = Table::default();
             table.insert(EntryKey::new(40, 1), "known", EntryKey::root());
-            let paths = way(&mut table, records, &names);
+            let rewound = way(&mut table, records, &names);
             table.compact();
-            let left = (0..50).map(|entry| table.path(EntryKey::new(entry, 1))).collect();
-            let paths = paths
+            let paths = rewound
                 .into_iter()
-                .map(|paths| (paths.full_path, paths.parent_path))
-                .collect();
-            (paths, left)
+                .flat_map(|paths| [paths.full_path, paths.parent_path]);
+            paths
+                .chain((0..50).map(|entry| table.path(EntryKey::new(entry, 1))))
+                .collect()
         })
     }
 
