@@ -99,7 +99,8 @@ uint32_t usn_listed_record(const uint8_t *extract, size_t extract_len, size_t of
 /* usn_parse_journal: the scan of an extract. For each version 2 and 3 record, in order, its offset and its length go to list, two
  * words; how many they are goes to out, one word. usn_listed_record then gives the fields of each.
  * Refuses: 5 out has no word; 1 the extract is above the domain; 5 list has fewer than two words for each record. */
-uint32_t usn_parse_journal(const uint8_t *extract, size_t extract_len, size_t *list, size_t list_len, uint64_t *out, size_t out_len);
+uint32_t usn_parse_journal(const uint8_t *extract, size_t extract_len, size_t *list, size_t list_len, uint64_t *out,
+                           size_t out_len);
 
 /* The words of a carving's answer, by their index. */
 enum usn_carving_word {
@@ -114,7 +115,8 @@ enum usn_carving_word {
 /* usn_carve_records: the version 2 and 3 records in raw bytes, wherever one stands at a multiple of 8. For each its offset and its
  * length go to list, two words; the USN_CARVING_WORDS counters go to out.
  * Refuses: 5 out has fewer than 5 words; 1 the extract is above the domain; 5 list has fewer than two words for each record. */
-uint32_t usn_carve_records(const uint8_t *extract, size_t extract_len, size_t *list, size_t list_len, uint64_t *out, size_t out_len);
+uint32_t usn_carve_records(const uint8_t *extract, size_t extract_len, size_t *list, size_t list_len, uint64_t *out,
+                           size_t out_len);
 
 /* The length of a window's buffer. */
 #define USN_WINDOW_BYTES 65536

@@ -6,8 +6,8 @@
  * Run:
  *     target/list samples/journal.bin
  *
- * The time for a journal of n records with k different files grows with n times k, since a step of a rewind looks at every used slot
- * of its table. */
+ * The time for a journal of n records with k different files grows with n times k, since a step of a rewind looks at every used
+ * slot of its table. */
 #include <inttypes.h>
 #include <stdio.h>
 #include <stdlib.h>
@@ -112,8 +112,8 @@ static void list_records(const uint8_t *journal, size_t length, const size_t *li
     size_t i, used;
     uint32_t refusal;
 
-    answered("rewind_start", rewind_start(journal, length, image, 0, list, records * USN_PLACE_WORDS, slots, words, 0, forward, words,
-                                          out, REWIND_START_WORDS));
+    answered("rewind_start", rewind_start(journal, length, image, 0, list, records * USN_PLACE_WORDS, slots, words, 0, forward,
+                                          words, out, REWIND_START_WORDS));
     free(slots);
     used = out[REWIND_START_USED];
     for (i = 0; i < records; i++) {
