@@ -1,0 +1,508 @@
+//! The C functions of `libvolume_history.a`, and the only `unsafe` of this crate. Nothing checks these declarations against the
+//! library's source; `include/` has them for C, with a paragraph for each call.
+//!
+//! A call answers 0 and writes the words of its answer, or answers a refusal's number and writes nothing. It asks nothing of the
+//! numbers and bytes that it is lent, so each function here is safe for any slices: what C has to be promised, that pointers are
+//! valid over their counts and that what is written overlaps nothing else, Rust's references promise.
+
+mod declared {
+    extern "C" {
+        pub fn usn_parse_record_v2(data: *const u8, data_len: usize, words: *mut u64, words_len: usize) -> u32;
+
+        pub fn usn_parse_record_v3(data: *const u8, data_len: usize, words: *mut u64, words_len: usize) -> u32;
+
+        pub fn usn_listed_record(
+            extract: *const u8,
+            extract_len: usize,
+            offset: usize,
+            words: *mut u64,
+            words_len: usize,
+        ) -> u32;
+
+        pub fn usn_parse_journal(
+            extract: *const u8,
+            extract_len: usize,
+            list: *mut usize,
+            list_len: usize,
+            out: *mut u64,
+            out_len: usize,
+        ) -> u32;
+
+        pub fn usn_carve_records(
+            extract: *const u8,
+            extract_len: usize,
+            list: *mut usize,
+            list_len: usize,
+            out: *mut u64,
+            out_len: usize,
+        ) -> u32;
+
+        pub fn usn_reader_new(total: u64, reader: *mut u64, reader_len: usize) -> u32;
+
+        pub fn usn_reader_next(
+            reader: *mut u64,
+            reader_len: usize,
+            buffer: *const u8,
+            buffer_len: usize,
+            out: *mut u64,
+            out_len: usize,
+        ) -> u32;
+
+        pub fn usn_reader_give(
+            reader: *mut u64,
+            reader_len: usize,
+            buffer: *mut u8,
+            buffer_len: usize,
+            bytes: *const u8,
+            bytes_len: usize,
+            out: *mut u64,
+            out_len: usize,
+        ) -> u32;
+
+        pub fn mft_carve_entries(
+            image: *const u8,
+            image_len: usize,
+            list: *mut u64,
+            list_len: usize,
+            out: *mut u64,
+            out_len: usize,
+        ) -> u32;
+
+        pub fn utf16_decode(
+            bytes: *const u8,
+            bytes_len: usize,
+            text: *mut u8,
+            text_len: usize,
+            out: *mut u64,
+            out_len: usize,
+        ) -> u32;
+
+        pub fn table_insert(
+            journal: *const u8,
+            journal_len: usize,
+            image: *const u8,
+            image_len: usize,
+            slots: *mut u64,
+            slots_len: usize,
+            used: usize,
+            entry: u64,
+            sequence: u64,
+            parent_entry: u64,
+            parent_sequence: u64,
+            source: u64,
+            offset: u64,
+            length: u64,
+            out: *mut u64,
+            out_len: usize,
+        ) -> u32;
+
+        pub fn table_insert_if_absent(
+            journal: *const u8,
+            journal_len: usize,
+            image: *const u8,
+            image_len: usize,
+            slots: *mut u64,
+            slots_len: usize,
+            used: usize,
+            entry: u64,
+            sequence: u64,
+            parent_entry: u64,
+            parent_sequence: u64,
+            source: u64,
+            offset: u64,
+            length: u64,
+            out: *mut u64,
+            out_len: usize,
+        ) -> u32;
+
+        pub fn table_seed(
+            journal: *const u8,
+            journal_len: usize,
+            image: *const u8,
+            image_len: usize,
+            slots: *mut u64,
+            slots_len: usize,
+            used: usize,
+            entries: *const u64,
+            entries_len: usize,
+            out: *mut u64,
+            out_len: usize,
+        ) -> u32;
+
+        pub fn path_resolve(
+            journal: *const u8,
+            journal_len: usize,
+            image: *const u8,
+            image_len: usize,
+            slots: *const u64,
+            slots_len: usize,
+            used: usize,
+            entry: u64,
+            sequence: u64,
+            chain: *mut u64,
+            chain_len: usize,
+            text: *mut u8,
+            text_len: usize,
+            out: *mut u64,
+            out_len: usize,
+        ) -> u32;
+
+        pub fn rewind_start(
+            journal: *const u8,
+            journal_len: usize,
+            image: *const u8,
+            image_len: usize,
+            records: *const usize,
+            records_len: usize,
+            slots: *mut u64,
+            slots_len: usize,
+            used: usize,
+            forward: *mut u64,
+            forward_len: usize,
+            out: *mut u64,
+            out_len: usize,
+        ) -> u32;
+
+        pub fn rewind_next(
+            journal: *const u8,
+            journal_len: usize,
+            image: *const u8,
+            image_len: usize,
+            records: *const usize,
+            records_len: usize,
+            used: usize,
+            position: usize,
+            forward: *mut u64,
+            forward_len: usize,
+            chain: *mut u64,
+            chain_len: usize,
+            text: *mut u8,
+            text_len: usize,
+            out: *mut u64,
+            out_len: usize,
+        ) -> u32;
+    }
+}
+
+/// How many words a record has.
+pub const RECORD_WORDS: usize = 19;
+
+/// How many words a window has.
+pub const READER_WORDS: usize = 6;
+
+/// The most words that a window's answer takes, and its first word.
+pub const READING_WORDS: usize = 3 + RECORD_WORDS;
+pub const READING_END: u64 = 0;
+pub const READING_WANTS: u64 = 1;
+
+/// The length of a window's buffer.
+pub const WINDOW_BYTES: usize = 65536;
+
+/// How many words a carved MFT entry has.
+pub const ENTRY_WORDS: usize = 9;
+
+/// How many words a slot of a table has, and the words of its name's offset and length.
+pub const SLOT_WORDS: usize = 7;
+pub const SLOT_NAME_OFFSET: usize = 5;
+pub const SLOT_NAME_LENGTH: usize = 6;
+
+/// The version 2 record that `data` begins with.
+pub fn usn_parse_record_v2(data: &[u8], words: &mut [u64; RECORD_WORDS]) -> u32 {
+    // SAFETY: both slices are valid over their lengths, and `words`, which is written, is lent to this call alone.
+    unsafe { declared::usn_parse_record_v2(data.as_ptr(), data.len(), words.as_mut_ptr(), words.len()) }
+}
+
+/// The version 3 record that `data` begins with.
+pub fn usn_parse_record_v3(data: &[u8], words: &mut [u64; RECORD_WORDS]) -> u32 {
+    // SAFETY: both slices are valid over their lengths, and `words`, which is written, is lent to this call alone.
+    unsafe { declared::usn_parse_record_v3(data.as_ptr(), data.len(), words.as_mut_ptr(), words.len()) }
+}
+
+/// The record at `offset` of an extract, which may be any number; the name's place counts from the record.
+pub fn usn_listed_record(extract: &[u8], offset: usize, words: &mut [u64; RECORD_WORDS]) -> u32 {
+    // SAFETY: both slices are valid over their lengths, and `words`, which is written, is lent to this call alone.
+    unsafe { declared::usn_listed_record(extract.as_ptr(), extract.len(), offset, words.as_mut_ptr(), words.len()) }
+}
+
+/// The offset and the length of each record of an extract, and how many they are.
+pub fn usn_parse_journal(extract: &[u8], list: &mut [usize], out: &mut [u64; 1]) -> u32 {
+    // SAFETY: the slices are valid over their lengths, and `list` and `out`, which are written, are lent to this call alone.
+    unsafe {
+        declared::usn_parse_journal(
+            extract.as_ptr(),
+            extract.len(),
+            list.as_mut_ptr(),
+            list.len(),
+            out.as_mut_ptr(),
+            out.len(),
+        )
+    }
+}
+
+/// The offset and the length of each record in raw bytes, and the five counters.
+pub fn usn_carve_records(extract: &[u8], list: &mut [usize], out: &mut [u64; 5]) -> u32 {
+    // SAFETY: the slices are valid over their lengths, and `list` and `out`, which are written, are lent to this call alone.
+    unsafe {
+        declared::usn_carve_records(
+            extract.as_ptr(),
+            extract.len(),
+            list.as_mut_ptr(),
+            list.len(),
+            out.as_mut_ptr(),
+            out.len(),
+        )
+    }
+}
+
+/// A window over a stream of `total` bytes.
+pub fn usn_reader_new(total: u64, reader: &mut [u64; READER_WORDS]) -> u32 {
+    // SAFETY: `reader`, which is written, is valid over its length and lent to this call alone.
+    unsafe { declared::usn_reader_new(total, reader.as_mut_ptr(), reader.len()) }
+}
+
+/// The next record of a window, the bytes that it wants first, or the end. A name's place counts from the buffer's start.
+pub fn usn_reader_next(reader: &mut [u64; READER_WORDS], buffer: &[u8], out: &mut [u64; READING_WORDS]) -> u32 {
+    // SAFETY: the slices are valid over their lengths, and `reader` and `out`, which are written, are lent to this call alone.
+    unsafe {
+        declared::usn_reader_next(
+            reader.as_mut_ptr(),
+            reader.len(),
+            buffer.as_ptr(),
+            buffer.len(),
+            out.as_mut_ptr(),
+            out.len(),
+        )
+    }
+}
+
+/// Gives a window the next bytes of its stream, which go into the buffer.
+pub fn usn_reader_give(
+    reader: &mut [u64; READER_WORDS],
+    buffer: &mut [u8],
+    bytes: &[u8],
+    out: &mut [u64; READING_WORDS],
+) -> u32 {
+    // SAFETY: the slices are valid over their lengths, and `reader`, `buffer` and `out`, which are written, are lent to this
+    // call alone.
+    unsafe {
+        declared::usn_reader_give(
+            reader.as_mut_ptr(),
+            reader.len(),
+            buffer.as_mut_ptr(),
+            buffer.len(),
+            bytes.as_ptr(),
+            bytes.len(),
+            out.as_mut_ptr(),
+            out.len(),
+        )
+    }
+}
+
+/// The entries of an image, `ENTRY_WORDS` words each, and the four counters.
+pub fn mft_carve_entries(image: &[u8], list: &mut [u64], out: &mut [u64; 4]) -> u32 {
+    // SAFETY: the slices are valid over their lengths, and `list` and `out`, which are written, are lent to this call alone.
+    unsafe {
+        declared::mft_carve_entries(
+            image.as_ptr(),
+            image.len(),
+            list.as_mut_ptr(),
+            list.len(),
+            out.as_mut_ptr(),
+            out.len(),
+        )
+    }
+}
+
+/// The UTF-16 of `bytes` as UTF-8 at the front of `text`, and how many bytes that is.
+pub fn utf16_decode(bytes: &[u8], text: &mut [u8], out: &mut [u64; 1]) -> u32 {
+    // SAFETY: the slices are valid over their lengths, and `text` and `out`, which are written, are lent to this call alone.
+    unsafe {
+        declared::utf16_decode(
+            bytes.as_ptr(),
+            bytes.len(),
+            text.as_mut_ptr(),
+            text.len(),
+            out.as_mut_ptr(),
+            out.len(),
+        )
+    }
+}
+
+// The calls below know two slices of names, the journal's and the image's. This crate keeps all names in one slice and lends it
+// for both: they are only read, so they may be the same.
+
+/// The entry of these words into a table, in place of a known one, and the used slots after it.
+pub fn table_insert(names: &[u8], slots: &mut [u64], used: usize, slot: &[u64; SLOT_WORDS], out: &mut [u64; 1]) -> u32 {
+    let [entry, sequence, parent_entry, parent_sequence, source, offset, length] = *slot;
+    // SAFETY: the slices are valid over their lengths, and `slots` and `out`, which are written, are lent to this call alone.
+    unsafe {
+        declared::table_insert(
+            names.as_ptr(),
+            names.len(),
+            names.as_ptr(),
+            names.len(),
+            slots.as_mut_ptr(),
+            slots.len(),
+            used,
+            entry,
+            sequence,
+            parent_entry,
+            parent_sequence,
+            source,
+            offset,
+            length,
+            out.as_mut_ptr(),
+            out.len(),
+        )
+    }
+}
+
+/// The same where the key is new.
+pub fn table_insert_if_absent(
+    names: &[u8],
+    slots: &mut [u64],
+    used: usize,
+    slot: &[u64; SLOT_WORDS],
+    out: &mut [u64; 1],
+) -> u32 {
+    let [entry, sequence, parent_entry, parent_sequence, source, offset, length] = *slot;
+    // SAFETY: the slices are valid over their lengths, and `slots` and `out`, which are written, are lent to this call alone.
+    unsafe {
+        declared::table_insert_if_absent(
+            names.as_ptr(),
+            names.len(),
+            names.as_ptr(),
+            names.len(),
+            slots.as_mut_ptr(),
+            slots.len(),
+            used,
+            entry,
+            sequence,
+            parent_entry,
+            parent_sequence,
+            source,
+            offset,
+            length,
+            out.as_mut_ptr(),
+            out.len(),
+        )
+    }
+}
+
+/// The carved entries, `ENTRY_WORDS` words each, under those of their keys that are new, and the used slots after it.
+pub fn table_seed(names: &[u8], slots: &mut [u64], used: usize, entries: &[u64], out: &mut [u64; 1]) -> u32 {
+    // SAFETY: the slices are valid over their lengths, and `slots` and `out`, which are written, are lent to this call alone.
+    unsafe {
+        declared::table_seed(
+            names.as_ptr(),
+            names.len(),
+            names.as_ptr(),
+            names.len(),
+            slots.as_mut_ptr(),
+            slots.len(),
+            used,
+            entries.as_ptr(),
+            entries.len(),
+            out.as_mut_ptr(),
+            out.len(),
+        )
+    }
+}
+
+/// The text of a key's path, and as the last word how many bytes it has. The places of its names are not asked for.
+pub fn path_resolve(
+    names: &[u8],
+    slots: &[u64],
+    used: usize,
+    [entry, sequence]: [u64; 2],
+    text: &mut [u8],
+    out: &mut [u64; 5],
+) -> u32 {
+    let chain: &mut [u64] = &mut [];
+    // SAFETY: the slices are valid over their lengths, and `chain`, `text` and `out`, which are written, are lent to this call
+    // alone.
+    unsafe {
+        declared::path_resolve(
+            names.as_ptr(),
+            names.len(),
+            names.as_ptr(),
+            names.len(),
+            slots.as_ptr(),
+            slots.len(),
+            used,
+            entry,
+            sequence,
+            chain.as_mut_ptr(),
+            chain.len(),
+            text.as_mut_ptr(),
+            text.len(),
+            out.as_mut_ptr(),
+            out.len(),
+        )
+    }
+}
+
+/// The start of a rewind over listed records: they go into the table of `slots`, which is copied to the front of `forward`.
+pub fn rewind_start(
+    names: &[u8],
+    records: &[usize],
+    slots: &mut [u64],
+    used: usize,
+    forward: &mut [u64],
+    out: &mut [u64; 2],
+) -> u32 {
+    // SAFETY: the slices are valid over their lengths, and `slots`, `forward` and `out`, which are written, are lent to this
+    // call alone.
+    unsafe {
+        declared::rewind_start(
+            names.as_ptr(),
+            names.len(),
+            names.as_ptr(),
+            names.len(),
+            records.as_ptr(),
+            records.len(),
+            slots.as_mut_ptr(),
+            slots.len(),
+            used,
+            forward.as_mut_ptr(),
+            forward.len(),
+            out.as_mut_ptr(),
+            out.len(),
+        )
+    }
+}
+
+/// The first of the listed records goes into `forward`, and its path to the front of `text`. The second word of `out` is the used
+/// slots after it, the last how many bytes the path has.
+pub fn rewind_next(
+    names: &[u8],
+    records: &[usize],
+    used: usize,
+    forward: &mut [u64],
+    text: &mut [u8],
+    out: &mut [u64; 8],
+) -> u32 {
+    let chain: &mut [u64] = &mut [];
+    // SAFETY: the slices are valid over their lengths, and `forward`, `chain`, `text` and `out`, which are written, are lent to
+    // this call alone.
+    unsafe {
+        declared::rewind_next(
+            names.as_ptr(),
+            names.len(),
+            names.as_ptr(),
+            names.len(),
+            records.as_ptr(),
+            records.len(),
+            used,
+            0,
+            forward.as_mut_ptr(),
+            forward.len(),
+            chain.as_mut_ptr(),
+            chain.len(),
+            text.as_mut_ptr(),
+            text.len(),
+            out.as_mut_ptr(),
+            out.len(),
+        )
+    }
+}

@@ -1,0 +1,11 @@
+//! The wrapper held to the scope, the buyer's description of what to build: its known cases P1 to P10, its record E, and what its
+//! sentences say of each call, as far as that shows from outside. Every expected value is written down from that document.
+
+mod carving;
+mod images;
+mod journals;
+mod layout;
+mod paths;
+mod reading;
+mod records;
+mod rewinds;
