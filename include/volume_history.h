@@ -10,6 +10,8 @@
 
 #include "usn_journal_reader.h"
 
+#include <stdbool.h>
+
 #ifdef __cplusplus
 extern "C" {
 #endif
@@ -81,6 +83,36 @@ uint32_t table_insert_if_absent(const uint8_t *journal, size_t journal_len, cons
  * more than the slots that are left. */
 uint32_t table_seed(const uint8_t *journal, size_t journal_len, const uint8_t *image, size_t image_len, uint64_t *slots,
                     size_t slots_len, size_t used, const uint64_t *entries, size_t entries_len, uint64_t *out, size_t out_len);
+
+/* A carved entry as a struct, for who does not have the words of mft_carve_entries: where the entry stands in the image, its number and
+ * sequence, where its name's UTF-16 lies in the image, and what it says of itself. */
+struct mft_place {
+    size_t offset;
+    size_t length;
+};
+
+struct mft_carved_entry {
+    size_t offset;
+    uint64_t entry_number;
+    uint16_t sequence_number;
+    struct mft_place filename;
+    uint64_t parent_entry;
+    uint16_t parent_sequence;
+    bool is_directory;
+    bool is_in_use;
+};
+
+/* What seeding from structs answers: the used slots, and 0 or the number of a refusal. */
+struct table_seeded {
+    size_t used;
+    uint32_t refusal;
+};
+
+/* table_seed_entries: table_seed for entries as structs, with the used slots in what it returns.
+ * Refuses: 9, 7 and 6 as table_seed. */
+struct table_seeded table_seed_entries(const uint8_t *journal, size_t journal_len, const uint8_t *image, size_t image_len,
+                                       uint64_t *slots, size_t slots_len, size_t used, const struct mft_carved_entry *entries,
+                                       size_t entries_len);
 
 /* What the names of a path hang under. */
 enum path_end {
