@@ -38,7 +38,8 @@ fn compare(seed: Option<u64>, number: u64, kind: &'static str, bytes: &[u8], len
     };
     for parser in &PARSERS {
         for &lent in lent {
-            compare_parser(parser, bytes, lent).map_err(|finding| case.differs(finding))?;
+            let again = |bytes: &[u8]| compare_parser(parser, bytes, lent).err();
+            compare_parser(parser, bytes, lent).map_err(|finding| case.smallest(finding, again))?;
         }
     }
     Ok(())
