@@ -102,7 +102,7 @@ struct mft_carved_entry {
     bool is_in_use;
 };
 
-/* What seeding from structs answers: the used slots, and 0 or the number of a refusal. Where it is refused, used is not promised. */
+/* What seeding from structs answers: the used slots, those that came in where it is refused, and 0 or the number of the refusal. */
 struct table_seeded {
     size_t used;
     uint32_t refusal;

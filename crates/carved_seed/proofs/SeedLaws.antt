@@ -12,7 +12,7 @@ use Rattle.entry_table.specs.Carved.{additionOf}
 use Rattle.carved_seed.specs.declared.Seeded.{Seeded}
 use Rattle.carved_seed.specs.declared.turns.Bounds.{Bounds}
 use Rattle.carved_seed.specs.declared.turns.Seeding.{Seeding}
-use Rattle.carved_seed.specs.Turns.{firstFrom, turned, wordsTurned, answer, seededOutcome}
+use Rattle.carved_seed.specs.Turns.{firstFrom, turned, wordsTurned, answer, inNumbers}
 use Rattle.carved_seed.proofs.EntryLaws.{entryAt, addedAt, whole-entries}
 use Rattle.carved_seed.proofs.TurnLaws.{Stands, ahead, first-stands, stands-asks, turned-stands, over-stored}
 
@@ -40,9 +40,9 @@ module _ (js ms xs : List ℕ) (used : ℕ) (es : List CarvedMftEntry) where
 
   -- at the end, what is answered and left is what storing does
   pub seeds-over : (zs : List ℕ) (t : Seeding) → Seeds zs t → length es ≤ t .at → (r : Seeded) → r ≡ answer t
-      → (seededOutcome r ≡ usedAfter (storing (lengthsOf js ms) (table xs used) (map additionOf es))) × (zs ≡ wordsAfter (storing (lengthsOf js ms) (table xs used) (map additionOf es)) xs)
+      → (r ≡ inNumbers used (usedAfter (storing (lengthsOf js ms) (table xs used) (map additionOf es)))) × (zs ≡ wordsAfter (storing (lengthsOf js ms) (table xs used) (map additionOf es)) xs)
   seeds-over zs t w l r e =
       let o = over-stored (lengthsOf js ms) (table xs used) (addedAt es) (length es) zs t w l in (
-        ap seededOutcome e ∙ o .0 ∙ ap (λ (all : List Addition). usedAfter (storing (lengthsOf js ms) (table xs used) all)) (whole-entries es),
+        e ∙ o .0 ∙ ap (λ (all : List Addition). inNumbers used (usedAfter (storing (lengthsOf js ms) (table xs used) all))) (whole-entries es),
         o .1 ∙ ap (λ (all : List Addition). wordsAfter (storing (lengthsOf js ms) (table xs used) all) xs) (whole-entries es),
       )

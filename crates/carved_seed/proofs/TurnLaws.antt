@@ -5,7 +5,7 @@ use mathlib.Core.List.{List, [], _∷_}
 use mathlib.Core.Bool.{Bool, true, false, cond, true≢false}
 use native.Mathlib.Omega.{arith}
 use native.Mathlib.Nat.{suc-mul}
-use borrow.Author.Tests.{ltb-true, ltb-false, leb-true, leb-false, ne-eqb}
+use borrow.Author.Tests.{ltb-true, ltb-false, leb-true, leb-false}
 use lib.Dec.{ltb, leb, eqb}
 use Rattle.walk.specs.Outcome.{Outcome, refused, answered}
 use Rattle.walk.specs.Refusals.{badState, nameOutside, tableFull}
@@ -25,7 +25,7 @@ use Rattle.entry_table.proofs.StoringLaws.{adding-full, stored-bad-state, store
 use Rattle.entry_table.proofs.AdditionLaws.{keysAt, Looking, looking-start, looking-table, looking-next, looking-found, looking-end, Counting, counting-start, counting-new, counting-known, counting-end, room-for-all, AddingRows, rows-start, rows-added, rows-refused, rows-added-all}
 use Rattle.carved_seed.specs.declared.turns.Bounds.{Bounds}
 use Rattle.carved_seed.specs.declared.turns.Seeding.{Seeding}
-use Rattle.carved_seed.specs.Turns.{toJudge, toCompare, toAdd, toEnd, nextFrom, firstFrom, compareFrom, judged, compared, afterAdding, inserted, wordsInserted, turned, wordsTurned, answer, seededOutcome}
+use Rattle.carved_seed.specs.Turns.{toJudge, toCompare, toAdd, toEnd, nextFrom, firstFrom, compareFrom, judged, compared, afterAdding, inserted, wordsInserted, turned, wordsTurned, answer, inNumbers}
 
 -- how far seeding is from its end: what is left where entry i is judged next, and where seeding stands
 unfoldable pub budget : ℕ → ℕ → ℕ
@@ -91,7 +91,7 @@ pub data Stands (ls : Lengths) (t₀ : Table) (f : ℕ → Addition) (count : �
   judging : (i n : ℕ) → s ≡ t₀ .words → t ≡ toJudge i n (t₀ .used) → i < count → Judged ls t₀ f count i n → Stands ls t₀ f count s t
   comparing : (at i n : ℕ) (key : EntryKey) → s ≡ t₀ .words → t ≡ toCompare at i n (t₀ .used) key → at < i → Comparing ls t₀ f count at i n key → Stands ls t₀ f count s t
   inserting : (at used : ℕ) → t ≡ toAdd at used → Inserting ls t₀ f count at (table s used) → Stands ls t₀ f count s t
-  ended : (used n : ℕ) → s ≡ t₀ .words → t ≡ toEnd count used n → (n ≡ 0 → ⊥) → storing ls t₀ (rows f 0 count) ≡ refused n → Stands ls t₀ f count s t
+  ended : (n : ℕ) → s ≡ t₀ .words → t ≡ toEnd count (t₀ .used) n → storing ls t₀ (rows f 0 count) ≡ refused n → Stands ls t₀ f count s t
 
 module _ (ls : Lengths) (t₀ : Table) (f : ℕ → Addition) (count : ℕ) where
   abbrev slots : ℕ
@@ -104,8 +104,8 @@ module _ (ls : Lengths) (t₀ : Table) (f : ℕ → Addition) (count : ℕ) wher
   names : {b : Bool} → b ≡ allInside ls (rows (λ j. f j .info .name) 0 count) → allInside ls (namesOf (rows f 0 count)) ≡ b
   names e = ap (allInside ls) (map-rows _ f 0 count) ∙ sym e
 
-  end-near : {m : ℕ} (used n : ℕ) → (n ≡ 0 → ⊥) → storing ls t₀ (rows f 0 count) ≡ refused n → 0 < m → Near m (t₀ .words) (toEnd count used n)
-  end-near used n z e h = (ended used n refl refl z e, omega arith)
+  end-near : {m : ℕ} (n : ℕ) → storing ls t₀ (rows f 0 count) ≡ refused n → 0 < m → Near m (t₀ .words) (toEnd count (t₀ .used) n)
+  end-near n e h = (ended n refl refl e, omega arith)
 
   next-near : {m : ℕ} (i n : ℕ) → Judged ls t₀ f count i n → budget count i < m → Near m (t₀ .words) (nextFrom count slots (t₀ .used) i n)
   unfolding nextFrom
@@ -119,7 +119,7 @@ module _ (ls : Lengths) (t₀ : Table) (f : ℕ → Addition) (count : ℕ) wher
       (λ y.
       let more : slots - t₀ .used < n = ltb-true _ _ y in
       let k : Counting t₀ f count n i = w .counted (omega (arith, w .few, w .passed .near)) in
-      end-near (t₀ .used) tableFull (λ z. omega arith) (all ∙ adding-full t₀ (rows f 0 count) (omega (arith, counting-end k last, w .fits))) (omega (arith, h)))
+      end-near tableFull (all ∙ adding-full t₀ (rows f 0 count) (omega (arith, counting-end k last, w .fits))) (omega (arith, h)))
       (λ y.
       let room : t₀ .used + newKeys (known t₀) (keysOf (rows f 0 count)) ≤ slots = roomy i n w last (ltb-false _ _ y) in
       (inserting 0 (t₀ .used) refl (record { all = all; room = room; added = rows-start t₀ f count room }), omega (arith, h, budget-enough count i))))
@@ -136,7 +136,7 @@ module _ (ls : Lengths) (t₀ : Table) (f : ℕ → Addition) (count : ℕ) wher
   unfolding firstFrom
   first-stands =
       cond-cases (Stands ls t₀ f count (t₀ .words)) (ltb slots (t₀ .used))
-      (λ x. ended (t₀ .used) badState refl refl (λ z. omega arith) (stored-bad-state ls t₀ (rows f 0 count) (ltb-true _ _ x)))
+      (λ x. ended badState refl refl (stored-bad-state ls t₀ (rows f 0 count) (ltb-true _ _ x)))
       (λ x.
       next-near {m = budget count 0 + 1} 0 0
       (record { fits = ltb-false _ _ x; few = omega arith; passed = passing-start _ _ count; counted = λ _. counting-start t₀ f count })
@@ -197,7 +197,7 @@ module _ (ls : Lengths) (t₀ : Table) (f : ℕ → Addition) (count : ℕ) wher
         })
         (omega (arith, budget-next count i h)))))
         (λ x.
-        end-near (t₀ .used) nameOutside (λ z. omega arith)
+        end-near nameOutside
         (stored-outside ls t₀ (rows f 0 count) (w .fits) (names (passing-outside (w .passed) h (ap (λ (a : Addition). a .info .name) e) refl x)))
         (omega (arith, budget-enough count i))))
 
@@ -249,7 +249,7 @@ module _ (ls : Lengths) (t₀ : Table) (f : ℕ → Addition) (count : ℕ) wher
     stands-asks s t (inserting at used et w) l =
         let m : at < count = rw et at l in
         rw (et, eb) (omega (arith, w .added .rest .room), (m, (omega arith, omega arith)))
-    stands-asks s t (ended used n es et z e) l = let m : count < count = rw et at l in absurd (omega arith)
+    stands-asks s t (ended n es et e) l = let m : count < count = rw et at l in absurd (omega arith)
 
     pub turned-stands : (s : List ℕ) (t : Seeding) → Stands ls t₀ f count s t → t .at < count → additionOf c ≡ f (t .at)
         → Stands ls t₀ f count (wordsTurned s t c) (turned b s t c) × (ahead count (turned b s t c) < ahead count t)
@@ -257,16 +257,15 @@ module _ (ls : Lengths) (t₀ : Table) (f : ℕ → Addition) (count : ℕ) wher
     turned-stands s t (judging i n es et h w) l e = rw (et, es) (judge-near i n h (rw et at e) w)
     turned-stands s t (comparing at i n key es et h w) l e = rw (et, es) (compared-near at i n key h (rw et at e) w)
     turned-stands s t (inserting at used et w) l e = rw et (inserted-near at used s (rw et at l) (rw et at e) w)
-    turned-stands s t (ended used n es et z e′) l e = let m : count < count = rw et at l in absurd (omega arith)
+    turned-stands s t (ended n es et e′) l e = let m : count < count = rw et at l in absurd (omega arith)
 
   -- where seeding is over, what it answers and leaves is what storing does
   pub over-stored : (s : List ℕ) (t : Seeding) → Stands ls t₀ f count s t → count ≤ t .at
-      → (seededOutcome (answer t) ≡ usedAfter (storing ls t₀ (rows f 0 count))) × (s ≡ wordsAfter (storing ls t₀ (rows f 0 count)) (t₀ .words))
-  unfolding seededOutcome
+      → (answer t ≡ inNumbers (t₀ .used) (usedAfter (storing ls t₀ (rows f 0 count)))) × (s ≡ wordsAfter (storing ls t₀ (rows f 0 count)) (t₀ .words))
   over-stored s t (judging i n es et h w) l = let m : count ≤ i = rw et at l in absurd (omega arith)
   over-stored s t (comparing at i n key es et h w) l = let m : count ≤ at = rw et at l in let here : i < count = w .here in absurd (omega arith)
   over-stored s t (inserting at used et w) l =
       let m : count ≤ at = rw et at l in
       let q : storing ls t₀ (rows f 0 count) ≡ answered (table s used) = w .all ∙ rows-added-all (w .added) m (w .room) in
       rw (et, q) (refl, refl)
-  over-stored s t (ended used n es et z e) l = rw (et, es, e, ne-eqb n 0 z) (refl, refl)
+  over-stored s t (ended n es et e) l = rw (et, es, e) (refl, refl)

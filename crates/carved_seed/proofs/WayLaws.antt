@@ -2,15 +2,17 @@
 use Prim.Native.Nat.{ℕ, _+_, _-_, _≤_, _<_}
 use mathlib.Core.Path.{_≡_, refl, ap, sym, _∙_}
 use mathlib.Core.List.{List, [], _∷_}
-use mathlib.Core.Bool.{Bool, true, false}
+use mathlib.Core.Bool.{Bool, true, false, not}
 use borrow.Author.Tests.{lt-ltb, le-ltb, le-leb, lt-leb, eq-eqb, ne-eqb}
+use lib.Dec.{ltb}
 use Rattle.walk.specs.Outcome.{Outcome, refused, answered}
 use Rattle.walk.specs.Refusals.{badState, nameOutside, tableFull}
+use Rattle.walk.proofs.ChoiceLaws.{cond-cases}
 use Rattle.mft_carver.specs.declared.CarvedMftEntry.{CarvedMftEntry}
-use Rattle.entry_table.specs.Names.{lengths, inside}
+use Rattle.entry_table.specs.Names.{Lengths, lengths, inside, allInside}
 use Rattle.entry_table.specs.Slots.{slotsIn, sameKey}
-use Rattle.entry_table.specs.Table.{table, find, Addition, addition}
-use Rattle.entry_table.specs.Storing.{adding, usedAfter, wordsAfter}
+use Rattle.entry_table.specs.Table.{Table, table, find, known, Addition, addition}
+use Rattle.entry_table.specs.Storing.{newKeys, keysOf, namesOf, adding, storing, usedAfter, wordsAfter}
 use Rattle.entry_table.specs.Carved.{additionOf}
 use Rattle.entry_table.specs.declared.EntryKey.{EntryKey}
 use Rattle.entry_table.specs.declared.EntryInfo.{EntryInfo}
@@ -21,7 +23,7 @@ use Rattle.entry_table.proofs.AdditionLaws.{same-addition}
 use Rattle.carved_seed.specs.declared.Seeded.{Seeded}
 use Rattle.carved_seed.specs.declared.turns.Bounds.{Bounds}
 use Rattle.carved_seed.specs.declared.turns.Seeding.{Seeding}
-use Rattle.carved_seed.specs.Turns.{toJudge, toCompare, toAdd, toEnd, nextFrom, firstFrom, compareFrom, judged, compared, afterAdding, inserted, wordsInserted, turned, wordsTurned, seededOutcome}
+use Rattle.carved_seed.specs.Turns.{toJudge, toCompare, toAdd, toEnd, nextFrom, firstFrom, compareFrom, judged, compared, afterAdding, inserted, wordsInserted, turned, wordsTurned, inNumbers, seededOutcome}
 
 module _ (count slots used i n : ℕ) {r : Seeding} where
   pub next-judge : i < count → r ≡ toJudge i n used → r ≡ nextFrom count slots used i n
@@ -125,3 +127,15 @@ module _ (r : Seeded) where
   pub outcome-refused : (r .refusal ≡ 0 → ⊥) → refused (r .refusal) ≡ seededOutcome r
   unfolding seededOutcome
   outcome-refused h = sym (rw (seededOutcome, ne-eqb _ _ h))
+
+-- storing in numbers says what storing says: none of its refusals is 0
+module _ (ls : Lengths) (t : Table) (xs : List Addition) (used : ℕ) where
+  abbrev Says : Outcome Table → Type 0
+  Says o = seededOutcome (inNumbers used (usedAfter o)) ≡ usedAfter o
+
+  pub numbers-say : Says (storing ls t xs)
+  unfolding storing adding seededOutcome
+  numbers-say =
+      cond-cases Says (ltb (slotsIn (t .words)) (t .used)) (λ x. refl)
+      (λ x. cond-cases Says (not (allInside ls (namesOf xs))) (λ y. refl)
+      (λ y. cond-cases Says (ltb (slotsIn (t .words)) (t .used + newKeys (known t) (keysOf xs))) (λ z. refl) (λ z. refl)))

@@ -87,9 +87,15 @@ turned b s t c = cond (eqb (t .phase) 0) (judged b s t c) (cond (eqb (t .phase) 
 unfoldable pub wordsTurned : List ℕ → Seeding → CarvedMftEntry → List ℕ
 wordsTurned s t c = cond (eqb (t .phase) 0) s (cond (eqb (t .phase) 1) s (wordsInserted s t c))
 
--- what is answered at the end, and what it says
+-- what is answered at the end
 abbrev pub answer : Seeding → Seeded
 answer t = record { used = t .used; refusal = t .refusal }
 
+-- an outcome in numbers: the used slots, which are those that came in where it is refused, and 0 or the number of the refusal
+abbrev pub inNumbers : ℕ → Outcome ℕ → Seeded
+inNumbers used (refused n) = record { used = used; refusal = n }
+inNumbers used (answered n) = record { used = n; refusal = 0 }
+
+-- what the numbers say
 unfoldable pub seededOutcome : Seeded → Outcome ℕ
 seededOutcome r = cond (eqb (r .refusal) 0) (answered (r .used)) (refused (r .refusal))

@@ -10,7 +10,7 @@ ghost use Rattle.entry_table.specs.Names.{lengthsOf};
 ghost use Rattle.entry_table.specs.Table.{table};
 ghost use Rattle.entry_table.specs.Storing.{storing, usedAfter, wordsAfter, outcome};
 ghost use Rattle.entry_table.specs.Carved.{additionOf};
-ghost use Rattle.carved_seed.specs.Turns.{seededOutcome};
+ghost use Rattle.carved_seed.specs.Turns.{inNumbers, seededOutcome};
 use crate::turns::Bounds;
 use crate::turns::begin;
 use crate::turns::finish;
@@ -18,7 +18,8 @@ use crate::turns::turn;
 use entry_table::Stored;
 use mft_carver::CarvedMftEntry;
 
-// What seeding answers, in numbers: the used slots, and 0 or the number of a refusal.
+// What seeding answers, in numbers: the used slots, which are those that came in where it is refused, and 0 or the number of the
+// refusal.
 #[repr(C)]
 pub struct Seeded {
     pub used: usize,
@@ -50,7 +51,7 @@ pub extern "C" fn table_seed_entries(
     used: usize,
     entries: &[CarvedMftEntry],
 ) -> Seeded
-    ensures { λ r. ⌜ (seededOutcome r ≡ usedAfter (storing (lengthsOf (now (journal .entry)) (now (image .entry))) (table (now (slots .entry)) used) (map additionOf (now (entries .entry)))))
+    ensures { λ r. ⌜ (r ≡ inNumbers used (usedAfter (storing (lengthsOf (now (journal .entry)) (now (image .entry))) (table (now (slots .entry)) used) (map additionOf (now (entries .entry))))))
         × (now (slots .exit) ≡ wordsAfter (storing (lengthsOf (now (journal .entry)) (now (image .entry))) (table (now (slots .entry)) used) (map additionOf (now (entries .entry)))) (now (slots .entry))) ⌝ }
 {
     let b = Bounds {

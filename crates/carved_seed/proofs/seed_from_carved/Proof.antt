@@ -1,6 +1,6 @@
 -- `seed_from_carved` meets its contract: a walk of its MIR, by hand. All references go to `table_seed_entries` at their own lifetimes, shares and names: slots is given up for good (`gave-slice`), of the others copies are kept. `stored` makes the answer of the numbers.
 -- Assumes nothing.
-use mathlib.Core.Path.{_≡_, refl, _∙_}
+use mathlib.Core.Path.{_≡_, refl, ap, _∙_}
 use Prim.Native.Nat.{ℕ, _<_, _^_}
 use mathlib.Core.List.{List, [], _∷_, map}
 use lib.Dec.{T as Holds}
@@ -49,7 +49,8 @@ use Rattle.entry_table.specs.Carved.{additionOf}
 use Rattle.entry_table.proofs.Stored as D
 use Rattle.entry_table.proofs.Stored.Laws as D′
 use Rattle.carved_seed.specs.declared.Seeded.{Seeded}
-use Rattle.carved_seed.specs.Turns.{seededOutcome}
+use Rattle.carved_seed.specs.Turns.{inNumbers, seededOutcome}
+use Rattle.carved_seed.proofs.WayLaws.{numbers-say}
 use Rattle.carved_seed.proofs.Seeded as R
 use Rattle.carved_seed.proofs.Seeded.Laws as R′
 use Rattle.carved_seed.proofs.table_seed_entries as entries
@@ -135,8 +136,8 @@ module _ {M : Type 1} (𝓤 : URA M) (H : Heap 𝓤) (A : Atoms 𝓤) (W : Given
   abbrev done-by : Outcome Table
   done-by = storing (lengthsOf (yj .now) (ym .now)) (table (x .now) used) (map additionOf (y .now))
 
-  abbrev Said : Outcome ℕ → List ℕ → Type 0
-  Said r zs = (r ≡ usedAfter done-by) × (zs ≡ wordsAfter done-by (x .now))
+  abbrev Said : {A : Type 0} → A → A → List ℕ → Type 0
+  Said r o zs = (r ≡ o) × (zs ≡ wordsAfter done-by (x .now))
 
   typed-r : (r : Seeded) (u : Val) → Is R.the-row r (u ∷ []) → Holds (hasTy R′.mir u) × WT u
   typed-r r u is = LL.lawful R.the-type R′.the-laws 𝓤 H A W .typed r (u ∷ []) is .0
@@ -159,7 +160,7 @@ module _ {M : Type 1} (𝓤 : URA M) (H : Heap 𝓤) (A : Atoms 𝓤) (W : Given
   goes-stored : (r : Seeded) (u : Val) → ent 𝓤 (⋆ 𝓤 H A (‵ (OwnR r u) ∷ [])) (Answered 𝓤 H A mem run .pre (to-stored r u))
   goes-stored r u = qed W (‵ (OwnR r u) ∷ []) ∵ nothing ! $ move ! (1 ∷ 0 ∷ []) $ fjoin ! $ nothing ! $ join ! $ frame ! $ done !
 
-  exits : used < 2 ^ 64 → (r : Stored) (u : Val) (zs : List ℕ) → length zs ≡ length (x .now) → Said (outcome r) zs
+  exits : used < 2 ^ 64 → (r : Stored) (u : Val) (zs : List ℕ) → length zs ≡ length (x .now) → Said (outcome r) (usedAfter done-by) zs
       → ent 𝓤 (⋆ 𝓤 H A (Tokens ∷ ‵ (finally u64 (x .name) zs) ∷ ‵ (OwnD r u) ∷ ‵ OwnJ ∷ ‵ OwnM ∷ ‵ OwnE ∷ [])) (Post u)
   exits used-fits r u zs l e =
       qed W (Tokens ∷ ‵ (finally u64 (x .name) zs) ∷ ‵ (OwnD r u) ∷ ‵ OwnJ ∷ ‵ OwnM ∷ ‵ OwnE ∷ []) ∵
@@ -181,8 +182,8 @@ module _ {M : Type 1} (𝓤 : URA M) (H : Heap 𝓤) (A : Atoms 𝓤) (W : Given
       -- [what `table_seed_entries` asks; journal; image; entries; _8; …; _0; …]
       calls-at ! (fmOf 𝓤 H (W .laws) 𝓣) (Entries 𝓤 H A mem run) known to (and-then ! (load ! (from ! (stop !)) (look ! 18 refl)) (and-then ! (load ! (from ! (stop !)) (look ! 16 refl)) (and-then ! (load ! (from ! (stop !)) (look ! 4 refl)) (and-then ! (load ! (from ! (stop !)) (look ! 12 refl)) (and-then ! (load ! (from ! (stop !)) (look ! 10 refl)) (no-more !)))))) (λ u.
       use1 W (later (some (λ (r : Seeded). (Tokens ⊛ ‵ (OwnR r u)) ⊛ raw (ensured 𝓤 H A entries.ended (entries.clauses 𝓤 H A mem run) (κ₀, (κ₁, (κ, (κ₃, tt)))) a tt r)))) (id⊢ 𝓤 _) $ await ! tt $ pick ! (λ r.
-      split ! $ move ! (1 ∷ []) $ use1 W (some (λ (ls : Unit {0} × (Unit {0} × (List ℕ × (Unit {0} × (Unit {0} × Unit {0}))))). ‵ (lasts entries.ended (κ₀, (κ₁, (κ, (κ₃, tt)))) a ls) ⊛ raw (fact 𝓤 (Said (seededOutcome r) (ls .1 .1 .0))))) (id⊢ 𝓤 _) $ pick ! (λ ls.
-      split ! $ move ! (1 ∷ []) $ heard ! (Said (seededOutcome r) (ls .1 .1 .0)) (λ e. fsplit ! $ drop ! $ fsplit ! $ drop ! $ fsplit ! $ fsplit ! $ move ! (1 ∷ []) $ feqL ! (λ l.
+      split ! $ move ! (1 ∷ []) $ use1 W (some (λ (ls : Unit {0} × (Unit {0} × (List ℕ × (Unit {0} × (Unit {0} × Unit {0}))))). ‵ (lasts entries.ended (κ₀, (κ₁, (κ, (κ₃, tt)))) a ls) ⊛ raw (fact 𝓤 (Said r (inNumbers used (usedAfter done-by)) (ls .1 .1 .0))))) (id⊢ 𝓤 _) $ pick ! (λ ls.
+      split ! $ move ! (1 ∷ []) $ heard ! (Said r (inNumbers used (usedAfter done-by)) (ls .1 .1 .0)) (λ e. fsplit ! $ drop ! $ fsplit ! $ drop ! $ fsplit ! $ fsplit ! $ move ! (1 ∷ []) $ feqL ! (λ l.
       -- [the last list; true; the tokens and the numbers; journal; image; entries; _8; …]
       move ! (2 ∷ []) $ split ! $ move ! (1 ∷ []) $ peeks ! R.the-row (Is R.the-row) (shows 𝓤 H A R.the-row) r (u ∷ []) (λ is. land ! (from ! (stop !)) (init ! 11 refl (typed-r r u is)) $
       use1 W (raw (Answered 𝓤 H A mem run .pre (to-stored r u))) (goes-stored r u) $
@@ -194,7 +195,7 @@ module _ {M : Type 1} (𝓤 : URA M) (H : Heap 𝓤) (A : Atoms 𝓤) (W : Given
       peeks ! D.the-row (Is D.the-row) (shows 𝓤 H A D.the-row) r′ (u′ ∷ []) (λ is′. land ! (from ! (stop !)) (init ! 23 refl (typed-d r′ u′ is′)) $
       returns ! (look ! 23 refl) $ forget ! 7 refl $ forget ! 9 refl $ forget ! 11 refl $ forget ! 13 refl $ forget ! 15 refl $ forget ! 17 refl $ forget ! 19 refl $ forget ! 21 refl $ forget ! 23 refl $
       move ! (23 ∷ 24 ∷ []) $ free1 ! $ move ! (21 ∷ 22 ∷ []) $ free1 ! $ move ! (19 ∷ 20 ∷ []) $ free1 ! $ move ! (17 ∷ 18 ∷ []) $ free1 ! $ move ! (15 ∷ 16 ∷ []) $ free1 ! $ move ! (13 ∷ 14 ∷ []) $ free1 ! $ move ! (11 ∷ 12 ∷ []) $ free1 ! $ move ! (9 ∷ 10 ∷ []) $ free1 ! $ move ! (7 ∷ 8 ∷ []) $ free1 ! $ free0 ! $
-      keep ! (1 ∷ 2 ∷ 0 ∷ 4 ∷ 5 ∷ 6 ∷ []) $ by ! (exits used-fits r′ u′ (ls .1 .1 .0) l (e′ ∙ e .0, e .1))))))))))))))))))))))
+      keep ! (1 ∷ 2 ∷ 0 ∷ 4 ∷ 5 ∷ 6 ∷ []) $ by ! (exits used-fits r′ u′ (ls .1 .1 .0) l (e′ ∙ ap seededOutcome (e .0) ∙ numbers-say (lengthsOf (yj .now) (ym .now)) (table (x .now) used) (map additionOf (y .now)) used, e .1))))))))))))))))))))))
 
 module _ {M : Type 1} (𝓤 : URA M) (H : Heap 𝓤) (A : Atoms 𝓤) (W : Given 𝓤 H A) (mem : Memory → SProp 𝓤) (run : Routine → Fun 𝓤) (𝓣 : Tables 𝓤 H)
     (known : Triple 𝓤 (𝓣 .C #table-seed-entries) (Entries 𝓤 H A mem run)) (known-stored : Triple 𝓤 (𝓣 .C #stored) (Answered 𝓤 H A mem run)) where
