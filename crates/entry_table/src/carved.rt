@@ -25,7 +25,7 @@ use crate::slots::same_key;
 pub const ROW: usize = 9;
 
 // The key of carved entry i.
-fn carved_key(entries: &[u64], i: usize) -> EntryKey
+pub fn carved_key(entries: &[u64], i: usize) -> EntryKey
     requires { ⌜ i * row + row ≤ length (now entries) ⌝ }
     ensures { λ r. ⌜ r ≡ carvedKey (now (entries .entry)) i ⌝ }
 {
@@ -46,7 +46,7 @@ fn carved_name(entries: &[u64], i: usize) -> NamePlace
 }
 
 // What it says of its key.
-fn carved_info(entries: &[u64], i: usize) -> EntryInfo
+pub fn carved_info(entries: &[u64], i: usize) -> EntryInfo
     requires { ⌜ i * row + row ≤ length (now entries) ⌝ }
     ensures { λ r. ⌜ r ≡ carvedInfo (now (entries .entry)) i ⌝ }
 {
@@ -56,7 +56,7 @@ fn carved_info(entries: &[u64], i: usize) -> EntryInfo
 }
 
 // Whether the name of every carved entry ends inside its slice.
-pub(crate) fn carved_inside(entries: &[u64], journal_length: usize, image_length: usize) -> bool
+pub fn carved_inside(entries: &[u64], journal_length: usize, image_length: usize) -> bool
     ensures { λ r. ⌜ r ≡ allInside (lengths «journal_length» «image_length») (namesOf (carvedIn (now (entries .entry)))) ⌝ }
 {
     let count = entries.len() / ROW;
@@ -106,7 +106,7 @@ pub(crate) fn new_keys(slots: &[u64], used: usize, entries: &[u64]) -> usize
 }
 
 // Whether the slots that are left are enough for the new keys. None is counted where they are enough for all entries.
-pub(crate) fn has_room(slots: &[u64], used: usize, entries: &[u64]) -> bool
+pub fn has_room(slots: &[u64], used: usize, entries: &[u64]) -> bool
     requires { ⌜ used ≤ slotsIn (now slots) ⌝ }
     ensures { λ r. ⌜ r ≡ leb (used + newKeys (known (table (now (slots .entry)) used)) (keysOf (carvedIn (now (entries .entry))))) (slotsIn (now (slots .entry))) ⌝ }
 {

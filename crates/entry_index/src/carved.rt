@@ -1,0 +1,45 @@
+// The additions of carved entries by way of an index.
+ghost use mathlib.Core.Path.{_≡_};
+ghost use Prim.Native.Nat.{_+_, _≤_, _<_};
+ghost use lib.ListN.{length};
+ghost use Rattle.entry_table.specs.Slots.{slotsIn};
+ghost use Rattle.entry_table.specs.Table.{table, known};
+ghost use Rattle.entry_table.specs.Storing.{newKeys, keysOf, adding, usedAfter, wordsAfter, outcome};
+ghost use Rattle.entry_table.specs.Carved.{carvedIn};
+ghost use Rattle.entry_index.specs.Index.{Indexed, headsAfter, nextsAfter};
+use crate::links::add;
+use entry_table::Stored;
+use entry_table::carved::ROW;
+use entry_table::carved::carved_info;
+use entry_table::carved::carved_key;
+
+// Every carved entry, in turn, where its key is new. The caller has seen to it that there is room, so that no addition is
+// refused.
+pub(crate) fn add_carved(
+    slots: &mut [u64],
+    used: usize,
+    entries: &[u64],
+    heads: &mut [u64],
+    nexts: &mut [u64],
+) -> Stored
+    requires { ⌜ used + newKeys (known (table (now slots) used)) (keysOf (carvedIn (now entries))) ≤ slotsIn (now slots) ⌝ }
+    requires { ⌜ Indexed (table (now slots) used) (now heads) (now nexts) × (0 < length (now heads) → slotsIn (now slots) ≤ length (now nexts)) ⌝ }
+    ensures { λ r. ⌜ outcome r ≡ usedAfter (adding (table (now (slots .entry)) used) (carvedIn (now (entries .entry)))) ⌝ }
+    ensures { λ _. ⌜ now (slots .exit) ≡ wordsAfter (adding (table (now (slots .entry)) used) (carvedIn (now (entries .entry)))) (now (slots .entry)) ⌝ }
+    ensures { λ _. ⌜ now (heads .exit) ≡ headsAfter (adding (table (now (slots .entry)) used) (carvedIn (now (entries .entry)))) (now (heads .entry)) ⌝ }
+    ensures { λ _. ⌜ now (nexts .exit) ≡ nextsAfter (length (now (heads .entry))) (adding (table (now (slots .entry)) used) (carvedIn (now (entries .entry)))) (now (nexts .entry)) ⌝ }
+{
+    let count = entries.len() / ROW;
+    let mut now_used = used;
+    let mut i: usize = 0;
+    while i < count {
+        let key = carved_key(entries, i);
+        let info = carved_info(entries, i);
+        match add(slots, now_used, heads, nexts, key, info, false) {
+            Stored::Used(n) => now_used = n,
+            Stored::Refused(n) => return Stored::Refused(n),
+        }
+        i += 1;
+    }
+    Stored::Used(now_used)
+}

@@ -1,0 +1,139 @@
+// The links of an index: how it is built, how a key is found by it, and how it is kept with an addition to the table.
+//
+// Heads of length 0 are no index: a key is then found by passing over the used slots.
+ghost use mathlib.Core.Path.{_≡_};
+ghost use mathlib.Core.List.{[], _∷_};
+ghost use Prim.Native.Nat.{_*_, _≤_, _<_};
+ghost use lib.ListN.{length};
+ghost use Rattle.entry_table.specs.Slots.{stride, slotsIn};
+ghost use Rattle.entry_table.specs.Table.{table, find, addition};
+ghost use Rattle.entry_table.specs.Storing.{adding, usedAfter, wordsAfter, outcome};
+ghost use Rattle.entry_index.specs.Index.{hash, headsOf, nextsOf, Indexed, headsAfter, nextsAfter, enough};
+ghost use Rattle.entry_index.specs.Probing.{Probed};
+use entry_table::EntryInfo;
+use entry_table::EntryKey;
+use entry_table::Stored;
+use entry_table::slots::Found;
+use entry_table::slots::STRIDE;
+use entry_table::slots::key_at;
+use entry_table::slots::put;
+use entry_table::slots::same_key;
+use walk::TABLE_FULL;
+
+// What a walk along the links of a key's hash comes to: the slot that has the key, or the last link, 0 where there is none.
+pub enum Probe {
+    Hit(usize),
+    Last(u64),
+}
+
+// Whether lent words are enough for the index of so many slots.
+pub fn is_enough(slots: usize, heads: &[u64], nexts: &[u64]) -> bool
+    ensures { λ r. ⌜ r ≡ enough slots (now (heads .entry)) (now (nexts .entry)) ⌝ }
+{
+    if heads.len() == 0 {
+        return false;
+    }
+    slots <= nexts.len()
+}
+
+// The hash of a key, below m.
+fn hash_of(m: usize, key: EntryKey) -> usize
+    requires { ⌜ 0 < m ⌝ }
+    ensures { λ r. ⌜ r ≡ hash m key ⌝ }
+{
+    let mixed = key.entry % 4294967296 + key.sequence % 65536 * 2654435761;
+    mixed as usize % m
+}
+
+// The walk along the links of a key's hash.
+fn probe(slots: &[u64], used: usize, heads: &[u64], nexts: &[u64], key: EntryKey) -> Probe
+    requires { ⌜ (used * stride ≤ length (now slots)) × (0 < length (now heads)) × (used ≤ length (now nexts)) ⌝ }
+    requires { ⌜ Indexed (table (now slots) used) (now heads) (now nexts) ⌝ }
+    ensures { λ r. ⌜ Probed (length (now (heads .entry))) (table (now (slots .entry)) used) key r ⌝ }
+{
+    let mut link = heads[hash_of(heads.len(), key)];
+    let mut last: u64 = 0;
+    while 0 < link {
+        let i = (link - 1) as usize;
+        if same_key(key_at(slots, i), key) {
+            return Probe::Hit(i);
+        }
+        last = link;
+        link = nexts[i];
+    }
+    Probe::Last(last)
+}
+
+// The slot of a key: the lowest used one that has it.
+pub fn find(slots: &[u64], used: usize, heads: &[u64], nexts: &[u64], key: EntryKey) -> Found
+    requires { ⌜ (used * stride ≤ length (now slots)) × (0 < length (now heads) → used ≤ length (now nexts)) ⌝ }
+    requires { ⌜ Indexed (table (now slots) used) (now heads) (now nexts) ⌝ }
+    ensures { λ r. ⌜ r ≡ find (table (now (slots .entry)) used) key ⌝ }
+{
+    if heads.len() == 0 {
+        return entry_table::slots::find(slots, used, key);
+    }
+    match probe(slots, used, heads, nexts, key) {
+        Probe::Hit(i) => Found::At(i),
+        Probe::Last(_) => Found::Nothing,
+    }
+}
+
+// Makes the index of a table, whatever the words held.
+pub fn build(slots: &[u64], used: usize, heads: &mut [u64], nexts: &mut [u64])
+    requires { ⌜ (used * stride ≤ length (now slots)) × (0 < length (now heads) → used ≤ length (now nexts)) ⌝ }
+    ensures { λ _. ⌜ now (heads .exit) ≡ headsOf (length (now (heads .entry))) (table (now (slots .entry)) used) ⌝ }
+    ensures { λ _. ⌜ now (nexts .exit) ≡ nextsOf (length (now (heads .entry))) (table (now (slots .entry)) used) (now (nexts .entry)) ⌝ }
+{
+    let m = heads.len();
+    if m == 0 {
+        return;
+    }
+    clear(heads);
+    clear(nexts);
+    let mut i = used;
+    while 0 < i {
+        i -= 1;
+        let h = hash_of(m, key_at(slots, i));
+        nexts[i] = heads[h];
+        heads[h] = (i + 1) as u64;
+    }
+}
+
+// What `entry_table::slots::add` does, by way of the index, which it keeps.
+pub fn add(
+    slots: &mut [u64],
+    used: usize,
+    heads: &mut [u64],
+    nexts: &mut [u64],
+    key: EntryKey,
+    info: EntryInfo,
+    replace: bool,
+) -> Stored
+    requires { ⌜ used ≤ slotsIn (now slots) ⌝ }
+    requires { ⌜ Indexed (table (now slots) used) (now heads) (now nexts) × (0 < length (now heads) → slotsIn (now slots) ≤ length (now nexts)) ⌝ }
+    ensures { λ r. ⌜ outcome r ≡ usedAfter (adding (table (now (slots .entry)) used) (addition key info replace ∷ [])) ⌝ }
+    ensures { λ _. ⌜ now (slots .exit) ≡ wordsAfter (adding (table (now (slots .entry)) used) (addition key info replace ∷ [])) (now (slots .entry)) ⌝ }
+    ensures { λ _. ⌜ now (heads .exit) ≡ headsAfter (adding (table (now (slots .entry)) used) (addition key info replace ∷ [])) (now (heads .entry)) ⌝ }
+    ensures { λ _. ⌜ now (nexts .exit) ≡ nextsAfter (length (now (heads .entry))) (adding (table (now (slots .entry)) used) (addition key info replace ∷ [])) (now (nexts .entry)) ⌝ }
+{
+    if heads.len() == 0 {
+        return entry_table::slots::add(slots, used, key, info, replace);
+    }
+    match probe(slots, used, heads, nexts, key) {
+        Probe::Hit(i) => {
+            if replace {
+                put(slots, i, key, info);
+            }
+            Stored::Used(used)
+        }
+        Probe::Last(last) => {
+            if slots.len() / STRIDE <= used {
+                return Stored::Refused(TABLE_FULL);
+            }
+            put(slots, used, key, info);
+            link(used, heads, nexts, key, last);
+            Stored::Used(used + 1)
+        }
+    }
+}
