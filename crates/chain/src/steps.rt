@@ -23,7 +23,7 @@ pub enum Way {
 }
 
 // Whether a key is the root.
-fn is_root(key: EntryKey) -> bool
+pub fn is_root(key: EntryKey) -> bool
     ensures { λ r. ⌜ r ≡ isRoot key ⌝ }
 {
     key.entry == ROOT_ENTRY

@@ -45,7 +45,7 @@ fn put_key(text: &mut [u8], at: usize, key: EntryKey) -> usize
 }
 
 // How many bytes a chain's end takes: few enough for any sum.
-pub(crate) fn end_length(end: ChainEnd) -> usize
+pub fn end_length(end: ChainEnd) -> usize
     ensures { λ r. ⌜ (r ≡ length (endText end)) × (r < 2 ^ 62) ⌝ }
 {
     match end {
@@ -56,7 +56,7 @@ pub(crate) fn end_length(end: ChainEnd) -> usize
 }
 
 // A full stop, or a marker.
-pub(crate) fn put_end(text: &mut [u8], at: usize, end: ChainEnd) -> usize
+pub fn put_end(text: &mut [u8], at: usize, end: ChainEnd) -> usize
     requires { ⌜ at + length (endText end) ≤ length (now text) ⌝ }
     ensures { λ r. ⌜ r ≡ at + length (endText end) ⌝ }
     ensures { λ _. ⌜ now (text .exit) ≡ sets (now (text .entry)) at (endText end) ⌝ }
@@ -75,7 +75,7 @@ pub(crate) fn put_end(text: &mut [u8], at: usize, end: ChainEnd) -> usize
 }
 
 // How many bytes the text of the name at a place takes.
-pub(crate) fn place_length(journal: &[u8], image: &[u8], place: NamePlace) -> usize
+pub fn place_length(journal: &[u8], image: &[u8], place: NamePlace) -> usize
     requires { ⌜ inside (lengthsOf (now journal) (now image)) place ≡ true ⌝ }
     ensures { λ r. ⌜ r ≡ length (placeText (now (journal .entry)) (now (image .entry)) place) ⌝ }
 {

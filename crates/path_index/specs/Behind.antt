@@ -1,0 +1,35 @@
+-- The path of an entry by its parent and its own name, written behind other text.
+use Prim.Native.Nat.{ℕ, _+_, _-_}
+use mathlib.Core.List.{List, _++_}
+use mathlib.Core.Bool.{Bool, cond}
+use lib.ListN.{length}
+use lib.Seq.{sets}
+use lib.Dec.{ltb}
+use Rattle.entry_table.specs.Table.{Table}
+use Rattle.entry_table.specs.declared.EntryKey.{EntryKey}
+use Rattle.entry_table.specs.declared.NamePlace.{NamePlace}
+use Rattle.chain.specs.Settings.{depth}
+use Rattle.chain.specs.Chain.{Chain, chainOf}
+use Rattle.path.specs.Text.{namesText, pathText, stepText}
+use Rattle.path_index.specs.declared.Behind.{Behind}
+use Rattle.path_index.specs.declared.Behind.the-variants.{Full, To}
+use Rattle.path_index.specs.declared.ways.Measured.{Measured}
+
+-- the end of a chain, and how many bytes its names take
+abbrev pub measured : List ℕ → List ℕ → Chain → Measured
+measured journal image c = record { end = c .end; names = length (namesText journal image (c .places)) }
+
+-- the path of the parent, a backslash and the name
+unfoldable pub entryText : List ℕ → List ℕ → Table → EntryKey → NamePlace → List ℕ
+entryText journal image t parent name = pathText journal image (chainOf t depth parent) ++ stepText journal image name
+
+-- it is longer than the room behind the first bytes of a text
+abbrev pub passes : List ℕ → ℕ → List ℕ → Bool
+passes text at more = ltb (length text - at) (length more)
+
+-- what is answered: where it ends, or that there is no room; and what the text holds then
+abbrev pub behind : List ℕ → ℕ → List ℕ → Behind
+behind text at more = cond (passes text at more) Full (To (at + length more))
+
+abbrev pub textBehind : List ℕ → ℕ → List ℕ → List ℕ
+textBehind text at more = cond (passes text at more) text (sets text at more)
