@@ -68,7 +68,7 @@ fn new_keys(journal: &[u8], records: &[usize], slots: &[u64], used: usize) -> us
 
 // Whether so many slots are enough for those that are used and the new keys. None is counted where they are enough for all
 // records.
-pub(crate) fn has_room(
+pub fn has_room(
     journal: &[u8],
     records: &[usize],
     slots: &[u64],

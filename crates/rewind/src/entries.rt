@@ -37,14 +37,14 @@ fn has_reason(reasons: u32, bit: u32) -> bool
 }
 
 // Whether a record replaces what is known of its key, going backward: it has the old name of a rename.
-pub(crate) fn replaces_backward(entry: RecordEntry) -> bool
+pub fn replaces_backward(entry: RecordEntry) -> bool
     ensures { λ r. ⌜ r ≡ backward entry .replace ⌝ }
 {
     has_reason(entry.reason, RENAME_OLD_NAME)
 }
 
 // The same going forward: it has a new name, or its file was created.
-pub(crate) fn replaces_forward(entry: RecordEntry) -> bool
+pub fn replaces_forward(entry: RecordEntry) -> bool
     ensures { λ r. ⌜ r ≡ forward entry .replace ⌝ }
 {
     if has_reason(entry.reason, RENAME_NEW_NAME) {
@@ -73,7 +73,7 @@ fn name_from(offset: usize, name: Place) -> NamePlace
 }
 
 // What the record at an offset says; zeros where none stands there.
-pub(crate) fn entry_at(journal: &[u8], offset: usize) -> RecordEntry
+pub fn entry_at(journal: &[u8], offset: usize) -> RecordEntry
     ensures { λ r. ⌜ r ≡ entryOr (entryAt (now (journal .entry)) offset) ⌝ }
 {
     match listed_record(journal, offset) {
@@ -141,7 +141,7 @@ pub(crate) fn all_records(journal: &[u8], records: &[usize]) -> bool
 }
 
 // What the record says that is so far from the last one.
-pub(crate) fn entry_from_last(journal: &[u8], records: &[usize], i: usize) -> RecordEntry
+pub fn entry_from_last(journal: &[u8], records: &[usize], i: usize) -> RecordEntry
     requires { ⌜ i < recordsIn (now records) ⌝ }
     ensures { λ r. ⌜ r ≡ lastEntry (now (journal .entry)) (now (records .entry)) i ⌝ }
 {

@@ -10,7 +10,7 @@
 //
 // Every function here is proved. No call has a `requires`: any bytes, lists, tables and states get an answer. Names decide
 // nothing but the text and whether it fits.
-mod backward;
+pub mod backward;
 pub mod entries;
 pub mod telling;
 pub mod turn;

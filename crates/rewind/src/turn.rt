@@ -27,7 +27,7 @@ pub enum Turn {
 }
 
 // The refusal of a rewind over a table, or 0.
-pub(crate) fn refusal(
+pub fn refusal(
     journal: &[u8],
     image_length: usize,
     records: &[usize],
