@@ -66,7 +66,7 @@ pub(crate) fn put_length(decoded: Decoded, out: &mut [u64]) -> u32
 }
 
 // Storing's answer: 0 with the used slots as the first of the lent words, or the refusal.
-pub(crate) fn put_used(stored: Stored, out: &mut [u64]) -> u32
+pub fn put_used(stored: Stored, out: &mut [u64]) -> u32
     requires { ⌜ 1 ≤ length (now out) ⌝ }
     ensures { λ r. ⌜ r ≡ number (storingOutcome stored) ⌝ }
     ensures { λ _. ⌜ now (out .exit) ≡ listAfter countWords (storingOutcome stored) (now (out .entry)) ⌝ }

@@ -13,9 +13,9 @@
 //
 // Every function here is proved, and none has a `requires`. A refused call writes nothing, and one that answers writes the words
 // of its answer alone: those past them stay as they were.
-mod answers;
+pub mod answers;
 mod paths;
-mod rewinds;
+pub mod rewinds;
 
 ghost use mathlib.Core.Path.{_≡_};
 ghost use mathlib.Core.Bool.{true, false};

@@ -34,7 +34,7 @@ const KIND_END: u64 = 0;
 const KIND_RECORD: u64 = 1;
 
 // A start's answer: 0 with the state in front of the lent words, or the refusal.
-pub(crate) fn put_start(started: Started, out: &mut [u64]) -> u32
+pub fn put_start(started: Started, out: &mut [u64]) -> u32
     requires { ⌜ 2 ≤ length (now out) ⌝ }
     ensures { λ r. ⌜ r ≡ number (startOutcome started) ⌝ }
     ensures { λ _. ⌜ now (out .exit) ≡ listAfter rewindWords (startOutcome started) (now (out .entry)) ⌝ }

@@ -1,0 +1,151 @@
+// Seeding and rewinding by way of an index as C functions, for Rust or C to link: a slice is a pointer and a length, and an answer
+// goes out as a number, 0 or a refusal's, with its words in a lent list.
+//
+//     table_seed_indexed      table_seed
+//     rewind_start_indexed    rewind_start
+//     rewind_run              many of rewind_next in one call
+//
+// Every function here is proved, and none has a `requires`.
+ghost use mathlib.Core.Path.{_≡_};
+ghost use Rattle.walk.specs.Outcome.{mapOutcome};
+ghost use Rattle.walk.specs.Lists.{listAfter};
+ghost use Rattle.usn_journal_reader.specs.Answers.{number, unlessRefused};
+ghost use lib.ListN.{length};
+ghost use Rattle.entry_table.specs.Slots.{slotsIn};
+ghost use Rattle.entry_table.specs.Storing.{wordsAfter};
+ghost use Rattle.entry_index.specs.Index.{headsLeft, nextsLeft};
+ghost use Rattle.rewind.specs.Starting.{Tables, firstAfter, forwardAfter};
+ghost use Rattle.rewind_index.specs.Running.{Run, ran, indexes, headsRun, nextsRun};
+ghost use Rattle.volume_history.specs.Table.{seedCall, usedWords};
+ghost use Rattle.volume_history.specs.Rewind.{rewindOf, startCall, startWords};
+ghost use Rattle.volume_index.specs.Calls.{rowOf, runCall, runWords};
+use rewind::Rewind;
+use rewind_index::RewindRun;
+use volume_history::answers::USED_WORDS;
+use volume_history::answers::put_used;
+use volume_history::rewinds::START_WORDS;
+use volume_history::rewinds::put_start;
+use walk::LIST_FULL;
+use walk::put_words;
+
+// The words of a run's answer.
+const RUN_WORDS: usize = 4;
+
+// What table_seed does, by way of an index in the words of heads and nexts, whatever they hold.
+// Answers 0, or refuses as table_seed does.
+#[no_mangle]
+pub extern "C" fn table_seed_indexed(
+    journal: &[u8],
+    image: &[u8],
+    slots: &mut [u64],
+    used: usize,
+    entries: &[u64],
+    heads: &mut [u64],
+    nexts: &mut [u64],
+    out: &mut [u64],
+) -> u32
+    ensures { λ r. ⌜ r ≡ number (seedCall (now (journal .entry)) (now (image .entry)) (now (slots .entry)) used (now (entries .entry)) (now (out .entry))) ⌝ }
+    ensures { λ _. ⌜ now (slots .exit) ≡ wordsAfter (seedCall (now (journal .entry)) (now (image .entry)) (now (slots .entry)) used (now (entries .entry)) (now (out .entry))) (now (slots .entry)) ⌝ }
+    ensures { λ _. ⌜ now (heads .exit) ≡ headsLeft (slotsIn (now (slots .entry))) (seedCall (now (journal .entry)) (now (image .entry)) (now (slots .entry)) used (now (entries .entry)) (now (out .entry))) (now (heads .entry)) (now (nexts .entry)) ⌝ }
+    ensures { λ _. ⌜ now (nexts .exit) ≡ nextsLeft (slotsIn (now (slots .entry))) (seedCall (now (journal .entry)) (now (image .entry)) (now (slots .entry)) used (now (entries .entry)) (now (out .entry))) (now (heads .entry)) (now (nexts .entry)) ⌝ }
+    ensures { λ _. ⌜ now (out .exit) ≡ listAfter usedWords (seedCall (now (journal .entry)) (now (image .entry)) (now (slots .entry)) used (now (entries .entry)) (now (out .entry))) (now (out .entry)) ⌝ }
+{
+    if out.len() < USED_WORDS {
+        return LIST_FULL;
+    }
+    put_used(
+        entry_index::seed_indexed(journal, image, slots, used, entries, heads, nexts),
+        out,
+    )
+}
+
+// What rewind_start does, by way of an index in the words of heads and nexts, whatever they hold.
+// Answers 0, or refuses as rewind_start does.
+#[no_mangle]
+pub extern "C" fn rewind_start_indexed(
+    journal: &[u8],
+    image: &[u8],
+    records: &[usize],
+    slots: &mut [u64],
+    used: usize,
+    forward: &mut [u64],
+    heads: &mut [u64],
+    nexts: &mut [u64],
+    out: &mut [u64],
+) -> u32
+    ensures { λ r. ⌜ r ≡ number (startCall (now (journal .entry)) (now (image .entry)) (now (records .entry)) (now (slots .entry)) used (now (forward .entry)) (now (out .entry))) ⌝ }
+    ensures { λ _. ⌜ now (slots .exit) ≡ firstAfter (startCall (now (journal .entry)) (now (image .entry)) (now (records .entry)) (now (slots .entry)) used (now (forward .entry)) (now (out .entry))) (now (slots .entry)) ⌝ }
+    ensures { λ _. ⌜ now (forward .exit) ≡ forwardAfter (startCall (now (journal .entry)) (now (image .entry)) (now (records .entry)) (now (slots .entry)) used (now (forward .entry)) (now (out .entry))) (now (forward .entry)) ⌝ }
+    ensures { λ _. ⌜ now (heads .exit) ≡ headsLeft (slotsIn (now (slots .entry))) (mapOutcome (λ (ts : Tables). ts .first) (startCall (now (journal .entry)) (now (image .entry)) (now (records .entry)) (now (slots .entry)) used (now (forward .entry)) (now (out .entry)))) (now (heads .entry)) (now (nexts .entry)) ⌝ }
+    ensures { λ _. ⌜ now (nexts .exit) ≡ nextsLeft (slotsIn (now (slots .entry))) (mapOutcome (λ (ts : Tables). ts .first) (startCall (now (journal .entry)) (now (image .entry)) (now (records .entry)) (now (slots .entry)) used (now (forward .entry)) (now (out .entry)))) (now (heads .entry)) (now (nexts .entry)) ⌝ }
+    ensures { λ _. ⌜ now (out .exit) ≡ listAfter startWords (startCall (now (journal .entry)) (now (image .entry)) (now (records .entry)) (now (slots .entry)) used (now (forward .entry)) (now (out .entry))) (now (out .entry)) ⌝ }
+{
+    if out.len() < START_WORDS {
+        return LIST_FULL;
+    }
+    put_start(
+        rewind_index::rewind_start_indexed(
+            journal, image, records, slots, used, forward, heads, nexts,
+        ),
+        out,
+    )
+}
+
+// As many steps of rewind_next as ends has words, with the texts one behind the other at the front of text, and in ends where each
+// of them ends; by way of an index in the words of heads and nexts, whatever they hold. And 4 words of out: how many steps were
+// made, 0 or the refusal of the step before which it stopped, and the state after the last one that was made. Fewer steps than
+// asked for and no refusal: no record is left.
+// Answers 0, or refuses: 5 out has fewer than 4 words.
+#[no_mangle]
+pub extern "C" fn rewind_run(
+    journal: &[u8],
+    image: &[u8],
+    records: &[usize],
+    used: usize,
+    position: usize,
+    forward: &mut [u64],
+    heads: &mut [u64],
+    nexts: &mut [u64],
+    ends: &mut [u64],
+    text: &mut [u8],
+    out: &mut [u64],
+) -> u32
+    ensures { λ r. ⌜ r ≡ number (runCall (now (journal .entry)) (now (image .entry)) (now (records .entry)) (rewindOf used position) (now (forward .entry)) (now (ends .entry)) (now (text .entry)) (now (out .entry))) ⌝ }
+    ensures { λ _. ⌜ now (forward .exit) ≡ unlessRefused (runCall (now (journal .entry)) (now (image .entry)) (now (records .entry)) (rewindOf used position) (now (forward .entry)) (now (ends .entry)) (now (text .entry)) (now (out .entry))) (now (forward .entry)) (ran (now (journal .entry)) (now (image .entry)) (now (records .entry)) (now (forward .entry)) (rewindOf used position) (length (now (text .entry))) (length (now (ends .entry))) .words) ⌝ }
+    ensures { λ _. ⌜ now (heads .exit) ≡ unlessRefused (runCall (now (journal .entry)) (now (image .entry)) (now (records .entry)) (rewindOf used position) (now (forward .entry)) (now (ends .entry)) (now (text .entry)) (now (out .entry))) (now (heads .entry)) (headsRun (indexes (now (journal .entry)) (now (image .entry)) (now (records .entry)) (now (forward .entry)) (rewindOf used position) (length (now (ends .entry))) (now (heads .entry)) (now (nexts .entry))) (ran (now (journal .entry)) (now (image .entry)) (now (records .entry)) (now (forward .entry)) (rewindOf used position) (length (now (text .entry))) (length (now (ends .entry)))) (now (heads .entry))) ⌝ }
+    ensures { λ _. ⌜ now (nexts .exit) ≡ unlessRefused (runCall (now (journal .entry)) (now (image .entry)) (now (records .entry)) (rewindOf used position) (now (forward .entry)) (now (ends .entry)) (now (text .entry)) (now (out .entry))) (now (nexts .entry)) (nextsRun (indexes (now (journal .entry)) (now (image .entry)) (now (records .entry)) (now (forward .entry)) (rewindOf used position) (length (now (ends .entry))) (now (heads .entry)) (now (nexts .entry))) (ran (now (journal .entry)) (now (image .entry)) (now (records .entry)) (now (forward .entry)) (rewindOf used position) (length (now (text .entry))) (length (now (ends .entry)))) (now (heads .entry)) (now (nexts .entry))) ⌝ }
+    ensures { λ _. ⌜ now (ends .exit) ≡ listAfter (λ (x : Run). x .ends) (runCall (now (journal .entry)) (now (image .entry)) (now (records .entry)) (rewindOf used position) (now (forward .entry)) (now (ends .entry)) (now (text .entry)) (now (out .entry))) (now (ends .entry)) ⌝ }
+    ensures { λ _. ⌜ now (text .exit) ≡ listAfter (λ (x : Run). x .text) (runCall (now (journal .entry)) (now (image .entry)) (now (records .entry)) (rewindOf used position) (now (forward .entry)) (now (ends .entry)) (now (text .entry)) (now (out .entry))) (now (text .entry)) ⌝ }
+    ensures { λ _. ⌜ now (out .exit) ≡ listAfter runWords (runCall (now (journal .entry)) (now (image .entry)) (now (records .entry)) (rewindOf used position) (now (forward .entry)) (now (ends .entry)) (now (text .entry)) (now (out .entry))) (now (out .entry)) ⌝ }
+{
+    if out.len() < RUN_WORDS {
+        return LIST_FULL;
+    }
+    let run = rewind_index::rewind_run(
+        journal,
+        image,
+        records,
+        Rewind { used, position },
+        forward,
+        heads,
+        nexts,
+        ends,
+        text,
+    );
+    let row = run_row(run);
+    put_words(out, 0, &row);
+    0
+}
+
+// The answer of a run, a word each number.
+fn run_row(run: RewindRun) -> [u64; 4]
+    ensures { λ row. ⌜ row ≡ rowOf run ⌝ }
+{
+    let rewind = run.rewind;
+    [
+        run.steps as u64,
+        run.refusal as u64,
+        rewind.used as u64,
+        rewind.position as u64,
+    ]
+}
