@@ -115,7 +115,7 @@ mod declared {
             out_len: usize,
         ) -> u32;
 
-        pub fn table_seed(
+        pub fn table_seed_indexed(
             journal: *const u8,
             journal_len: usize,
             image: *const u8,
@@ -125,6 +125,10 @@ mod declared {
             used: usize,
             entries: *const u64,
             entries_len: usize,
+            heads: *mut u64,
+            heads_len: usize,
+            nexts: *mut u64,
+            nexts_len: usize,
             out: *mut u64,
             out_len: usize,
         ) -> u32;
@@ -147,7 +151,7 @@ mod declared {
             out_len: usize,
         ) -> u32;
 
-        pub fn rewind_start(
+        pub fn rewind_start_indexed(
             journal: *const u8,
             journal_len: usize,
             image: *const u8,
@@ -159,11 +163,15 @@ mod declared {
             used: usize,
             forward: *mut u64,
             forward_len: usize,
+            heads: *mut u64,
+            heads_len: usize,
+            nexts: *mut u64,
+            nexts_len: usize,
             out: *mut u64,
             out_len: usize,
         ) -> u32;
 
-        pub fn rewind_next(
+        pub fn rewind_run(
             journal: *const u8,
             journal_len: usize,
             image: *const u8,
@@ -174,8 +182,12 @@ mod declared {
             position: usize,
             forward: *mut u64,
             forward_len: usize,
-            chain: *mut u64,
-            chain_len: usize,
+            heads: *mut u64,
+            heads_len: usize,
+            nexts: *mut u64,
+            nexts_len: usize,
+            ends: *mut u64,
+            ends_len: usize,
             text: *mut u8,
             text_len: usize,
             out: *mut u64,
@@ -205,6 +217,22 @@ pub const ENTRY_WORDS: usize = 9;
 pub const SLOT_WORDS: usize = 7;
 pub const SLOT_NAME_OFFSET: usize = 5;
 pub const SLOT_NAME_LENGTH: usize = 6;
+
+/// Words for the index of a table, which the calls that want it fill. They may hold anything.
+pub struct Index {
+    heads: Vec<u64>,
+    nexts: Vec<u64>,
+}
+
+impl Index {
+    /// Room for the index of so many slots.
+    pub fn for_slots(slots: usize) -> Self {
+        Self {
+            heads: vec![0; slots.max(1)],
+            nexts: vec![0; slots],
+        }
+    }
+}
 
 /// The version 2 record that `data` begins with.
 pub fn usn_parse_record_v2(data: &[u8], words: &mut [u64; RECORD_WORDS]) -> u32 {
@@ -390,10 +418,18 @@ pub fn table_insert_if_absent(
 }
 
 /// The carved entries, `ENTRY_WORDS` words each, under those of their keys that are new, and the used slots after it.
-pub fn table_seed(names: &[u8], slots: &mut [u64], used: usize, entries: &[u64], out: &mut [u64; 1]) -> u32 {
-    // SAFETY: the slices are valid over their lengths, and `slots` and `out`, which are written, are lent to this call alone.
+pub fn table_seed_indexed(
+    names: &[u8],
+    slots: &mut [u64],
+    used: usize,
+    entries: &[u64],
+    index: &mut Index,
+    out: &mut [u64; 1],
+) -> u32 {
+    // SAFETY: the slices are valid over their lengths, and `slots`, those of `index` and `out`, which are written, are lent to this
+    // call alone.
     unsafe {
-        declared::table_seed(
+        declared::table_seed_indexed(
             names.as_ptr(),
             names.len(),
             names.as_ptr(),
@@ -403,6 +439,10 @@ pub fn table_seed(names: &[u8], slots: &mut [u64], used: usize, entries: &[u64],
             used,
             entries.as_ptr(),
             entries.len(),
+            index.heads.as_mut_ptr(),
+            index.heads.len(),
+            index.nexts.as_mut_ptr(),
+            index.nexts.len(),
             out.as_mut_ptr(),
             out.len(),
         )
@@ -443,18 +483,19 @@ pub fn path_resolve(
 }
 
 /// The start of a rewind over listed records: they go into the table of `slots`, which is copied to the front of `forward`.
-pub fn rewind_start(
+pub fn rewind_start_indexed(
     names: &[u8],
     records: &[usize],
     slots: &mut [u64],
     used: usize,
     forward: &mut [u64],
+    index: &mut Index,
     out: &mut [u64; 2],
 ) -> u32 {
-    // SAFETY: the slices are valid over their lengths, and `slots`, `forward` and `out`, which are written, are lent to this
-    // call alone.
+    // SAFETY: the slices are valid over their lengths, and `slots`, `forward`, those of `index` and `out`, which are written, are
+    // lent to this call alone.
     unsafe {
-        declared::rewind_start(
+        declared::rewind_start_indexed(
             names.as_ptr(),
             names.len(),
             names.as_ptr(),
@@ -466,27 +507,34 @@ pub fn rewind_start(
             used,
             forward.as_mut_ptr(),
             forward.len(),
+            index.heads.as_mut_ptr(),
+            index.heads.len(),
+            index.nexts.as_mut_ptr(),
+            index.nexts.len(),
             out.as_mut_ptr(),
             out.len(),
         )
     }
 }
 
-/// The first of the listed records goes into `forward`, and its path to the front of `text`. The second word of `out` is the used
-/// slots after it, the last how many bytes the path has.
-pub fn rewind_next(
+/// As many steps over the listed records as `ends` has words: each record goes into `forward`, its path behind those before it in
+/// `text`, and where it ends to `ends`. The words of `state`, the used slots and the records behind, come in and are those after
+/// the last step. The words of `out` are the steps, 0 or the refusal of the step before which it stopped, and the state again.
+pub fn rewind_run(
     names: &[u8],
     records: &[usize],
-    used: usize,
+    state: [usize; 2],
     forward: &mut [u64],
+    index: &mut Index,
+    ends: &mut [u64],
     text: &mut [u8],
-    out: &mut [u64; 8],
+    out: &mut [u64; 4],
 ) -> u32 {
-    let chain: &mut [u64] = &mut [];
-    // SAFETY: the slices are valid over their lengths, and `forward`, `chain`, `text` and `out`, which are written, are lent to
-    // this call alone.
+    let [used, position] = state;
+    // SAFETY: the slices are valid over their lengths, and `forward`, those of `index`, `ends`, `text` and `out`, which are written,
+    // are lent to this call alone.
     unsafe {
-        declared::rewind_next(
+        declared::rewind_run(
             names.as_ptr(),
             names.len(),
             names.as_ptr(),
@@ -494,11 +542,15 @@ pub fn rewind_next(
             records.as_ptr(),
             records.len(),
             used,
-            0,
+            position,
             forward.as_mut_ptr(),
             forward.len(),
-            chain.as_mut_ptr(),
-            chain.len(),
+            index.heads.as_mut_ptr(),
+            index.heads.len(),
+            index.nexts.as_mut_ptr(),
+            index.nexts.len(),
+            ends.as_mut_ptr(),
+            ends.len(),
             text.as_mut_ptr(),
             text.len(),
             out.as_mut_ptr(),

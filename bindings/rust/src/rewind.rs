@@ -76,9 +76,10 @@ pub struct ResolvedRecord {
 ///
 /// # What it costs
 ///
-/// The table is the library's: a list of slots that each lookup goes through, 56 bytes a key beside its name in UTF-16. A path
-/// takes time in proportion to the keys times the names in it, a rewind in proportion to the records times the keys. The Rust
-/// original hashes.
+/// The table is the library's: a list of slots, 56 bytes a key beside its name in UTF-16. [`RewindEngine::seed_from_carved`],
+/// [`RewindEngine::from_mft`] and [`RewindEngine::rewind`] build an index of it, of 16 bytes a slot, and take time in proportion to
+/// the entries or records and to the names in a path. [`RewindEngine::insert`] and [`RewindEngine::resolve_path`] go through the
+/// slots at each call.
 ///
 /// # Panics
 ///
@@ -100,11 +101,15 @@ impl RewindEngine {
     where
         I: IntoIterator<Item = (u64, u16, String, u64, u16)>,
     {
+        let entries: Vec<_> = mft_entries
+            .into_iter()
+            .map(|(entry, sequence, name, parent_entry, parent_sequence)| {
+                let parent = EntryKey::new(parent_entry, parent_sequence);
+                (EntryKey::new(entry, sequence), name, parent)
+            })
+            .collect();
         let mut engine = Self::new();
-        for (entry, sequence, name, parent_entry, parent_sequence) in mft_entries {
-            let parent = EntryKey::new(parent_entry, parent_sequence);
-            engine.insert(EntryKey::new(entry, sequence), EntryInfo { name, parent });
-        }
+        engine.table.fill(&entries);
         engine
     }
 

@@ -3,9 +3,9 @@
 //! The library knows a name as a place in the journal or in the image. Here all names are kept as UTF-16 in one slice of our own,
 //! which is lent to it for both, so that a place means the same bytes whatever source a slot has.
 
-use crate::calls::{self, ENTRY_WORDS, SLOT_NAME_LENGTH, SLOT_NAME_OFFSET, SLOT_WORDS};
+use crate::calls::{self, Index, ENTRY_WORDS, SLOT_NAME_LENGTH, SLOT_NAME_OFFSET, SLOT_WORDS};
 use crate::carve::CarvedMftEntry;
-use crate::error::{index, ruled_out, MAX_SLICE, TABLE_FULL};
+use crate::error::{index as number, ruled_out, MAX_SLICE, TABLE_FULL, TEXT_FULL};
 use crate::rewind::EntryKey;
 use crate::text::{self, encoded, with_text};
 use crate::usn::{UsnReason, UsnRecord};
@@ -13,6 +13,10 @@ use crate::usn::{UsnReason, UsnRecord};
 /// The fixed part of a version 2 record, and its greatest length.
 const FIXED_PART: usize = 60;
 const LONGEST_RECORD: usize = 65536;
+
+/// The bytes of text that a rewind lends at first, and how many more for each record.
+const FIRST_TEXT: usize = 4096;
+const USUAL_PATH: usize = 64;
 
 /// An entry number of a version 2 record is below this.
 const ENTRIES: u64 = 1 << 48;
@@ -43,7 +47,7 @@ impl Slots {
                 refusal => ruled_out(name, refusal),
             }
         }
-        self.used = index(out[0]);
+        self.used = number(out[0]);
     }
 
     /// An entry under its key; a known one is replaced or left alone.
@@ -102,26 +106,45 @@ impl Table {
     /// The carved entries, in order, each where its key is new.
     pub fn seed(&mut self, entries: &[CarvedMftEntry]) {
         let names: Vec<Vec<u8>> = entries.iter().map(|entry| encoded(&entry.filename)).collect();
-        self.make_room_for_names(names.iter().map(Vec::len).sum());
-        let mut rows = Vec::with_capacity(entries.len() * ENTRY_WORDS);
-        for (entry, name) in entries.iter().zip(&names) {
-            let [offset, length] = self.keep(name);
-            rows.extend([
-                entry.offset as u64,
-                entry.entry_number,
-                u64::from(entry.sequence_number),
-                offset,
-                length,
-                entry.parent_entry,
-                u64::from(entry.parent_sequence),
-                u64::from(entry.is_directory),
-                u64::from(entry.is_in_use),
-            ]);
+        let mut rows = self.rows(&names);
+        for (row, entry) in rows.chunks_exact_mut(ENTRY_WORDS).zip(entries) {
+            row[0] = entry.offset as u64;
+            row[7] = u64::from(entry.is_directory);
+            row[8] = u64::from(entry.is_in_use);
+            let parent = EntryKey::new(entry.parent_entry, entry.parent_sequence);
+            set_keys(row, EntryKey::new(entry.entry_number, entry.sequence_number), parent);
         }
-        self.slots.make_room(entries.len());
+        self.seed_rows(&rows);
+    }
+
+    /// Entries, of which the last counts where keys are equal: each under its key, with its name and its parent.
+    pub fn fill(&mut self, entries: &[(EntryKey, String, EntryKey)]) {
+        let last_first = || entries.iter().rev();
+        let names: Vec<Vec<u8>> = last_first().map(|(_, name, _)| encoded(name)).collect();
+        let mut rows = self.rows(&names);
+        for (row, (key, _, parent)) in rows.chunks_exact_mut(ENTRY_WORDS).zip(last_first()) {
+            set_keys(row, *key, *parent);
+        }
+        self.seed_rows(&rows);
+    }
+
+    /// A row of words for each name, which is kept: its place, and 0 for all else.
+    fn rows(&mut self, names: &[Vec<u8>]) -> Vec<u64> {
+        self.make_room_for_names(names.iter().map(Vec::len).sum());
+        let rows = names.iter().flat_map(|name| {
+            let [offset, length] = self.keep(name);
+            [0, 0, 0, offset, length, 0, 0, 0, 0]
+        });
+        rows.collect()
+    }
+
+    /// The rows of carved entries, in order, each where its key is new.
+    fn seed_rows(&mut self, rows: &[u64]) {
+        self.slots.make_room(rows.len() / ENTRY_WORDS);
+        let mut index = Index::for_slots(self.slots.words.len() / SLOT_WORDS);
         let names = &self.names;
-        self.slots.add("table_seed", |words, used, out| {
-            calls::table_seed(names, words, used, &rows, out)
+        self.slots.add("table_seed_indexed", |words, used, out| {
+            calls::table_seed_indexed(names, words, used, rows, &mut index, out)
         });
     }
 
@@ -155,34 +178,30 @@ impl Table {
             write_record(&mut self.names, record, name);
         }
 
-        let mut forward = Slots::default();
-        let mut out = [0; 2];
         self.slots.make_room(records.len());
-        forward.words.resize(self.slots.words.len(), 0);
+        let mut index = Index::for_slots(self.slots.words.len() / SLOT_WORDS);
+        let mut forward = vec![0; self.slots.words.len()];
+        let mut out = [0; 2];
         let words = &mut self.slots.words;
-        match calls::rewind_start(&self.names, &list, words, self.slots.used, &mut forward.words, &mut out) {
+        match calls::rewind_start_indexed(
+            &self.names,
+            &list,
+            words,
+            self.slots.used,
+            &mut forward,
+            &mut index,
+            &mut out,
+        ) {
             0 => {}
-            refusal => ruled_out("rewind_start", refusal),
+            refusal => ruled_out("rewind_start_indexed", refusal),
         }
-        self.slots.used = index(out[0]);
-        forward.used = self.slots.used;
-
-        // Each step is lent the one record that it is about: it tests all that it is lent.
-        let mut text = vec![0; 1024];
-        let steps = records.iter().zip(list.chunks_exact(2));
-        steps
-            .map(|(record, place)| {
-                let mut used = 0;
-                let length = text::fill(&mut text, "rewind_next", |text| {
-                    let mut out = [0; 8];
-                    let words = &mut forward.words;
-                    let refusal = calls::rewind_next(&self.names, place, forward.used, words, text, &mut out);
-                    used = index(out[1]);
-                    (refusal, out[7])
-                });
-                forward.used = used;
-                let full_path = text::string(&text[..length]);
-                let parent_path = full_path[..length - record.filename.len() - 1].to_owned();
+        self.slots.used = number(out[0]);
+        let texts = run(&self.names, &list, out.map(number), &mut forward, &mut index);
+        texts
+            .into_iter()
+            .zip(records)
+            .map(|(full_path, record)| {
+                let parent_path = full_path[..full_path.len() - record.filename.len() - 1].to_owned();
                 Paths { full_path, parent_path }
             })
             .collect()
@@ -246,12 +265,48 @@ impl Table {
     fn compact(&mut self) {
         let mut names = Vec::new();
         for slot in self.slots.words.chunks_exact_mut(SLOT_WORDS).take(self.slots.used) {
-            let offset = index(slot[SLOT_NAME_OFFSET]);
+            let offset = number(slot[SLOT_NAME_OFFSET]);
             slot[SLOT_NAME_OFFSET] = names.len() as u64;
-            names.extend_from_slice(&self.names[offset..offset + index(slot[SLOT_NAME_LENGTH])]);
+            names.extend_from_slice(&self.names[offset..offset + number(slot[SLOT_NAME_LENGTH])]);
         }
         self.names = names;
     }
+}
+
+/// The paths of all listed records, from the start of a rewind on. Every run tests what it is lent and builds the index anew, so
+/// that there are few: its text has room for paths of a usual length, and is twice as long after a run that it stopped.
+fn run(names: &[u8], list: &[usize], mut state: [usize; 2], forward: &mut [u64], index: &mut Index) -> Vec<String> {
+    let records = list.len() / 2;
+    let mut texts = Vec::with_capacity(records);
+    let mut text = vec![0; FIRST_TEXT + USUAL_PATH * records];
+    let mut ends = vec![0; records];
+    while texts.len() < records {
+        let asked = &mut ends[texts.len()..];
+        let mut out = [0; 4];
+        match calls::rewind_run(names, list, state, forward, index, asked, &mut text, &mut out) {
+            0 => {}
+            refusal => ruled_out("rewind_run", refusal),
+        }
+        let [steps, refusal, used, position] = out;
+        let mut from = 0;
+        for &end in &asked[..number(steps)] {
+            texts.push(text::string(&text[from..number(end)]));
+            from = number(end);
+        }
+        state = [used, position].map(number);
+        match refusal {
+            0 => {}
+            refusal if refusal == u64::from(TEXT_FULL) => text.resize(2 * text.len(), 0),
+            refusal => ruled_out("rewind_run", refusal as u32),
+        }
+    }
+    texts
+}
+
+/// The keys of a carved entry's row.
+fn set_keys(row: &mut [u64], key: EntryKey, parent: EntryKey) {
+    row[1..3].copy_from_slice(&words_of(key));
+    row[5..7].copy_from_slice(&words_of(parent));
 }
 
 /// A key as the words of a slot.
