@@ -53,9 +53,10 @@ pub record Links (m : ℕ) (t : Table) (heads nexts : List ℕ) : Type 0 where
 pub links-index : {m : ℕ} {t : Table} {heads nexts : List ℕ} (w : List ℕ) → Links m t heads nexts → length nexts ≡ length w
     → (heads ≡ headsOf m t) × (nexts ≡ nextsOf m t w)
 unfolding headsOf nextsOf
-links-index {m} {t} {heads} {nexts} w x l =
-    (rows-ext (headOf m t) m heads (x .many) (x .head),
-     rw (lt-ltb 0 m (x .some)) (rows-ext (nextOf m t) (length w) nexts l (λ i g. x .next i (omega (arith, l)))))
+links-index {m} {t} {heads} {nexts} w x l = (
+  rows-ext (headOf m t) m heads (x .many) (x .head),
+  rw (lt-ltb 0 m (x .some)) (rows-ext (nextOf m t) (length w) nexts l (λ i g. x .next i (omega (arith, l)))),
+)
 
 -- and an index has them
 pub index-links : {m : ℕ} (t : Table) (heads nexts w : List ℕ) → 0 < m → heads ≡ headsOf m t → nexts ≡ nextsOf m t w → Links m t heads nexts

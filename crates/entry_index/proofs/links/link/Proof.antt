@@ -27,7 +27,7 @@ same-length : tie.Need-same-length
 same-length c = search needs
 
 returns : tie.Need-returns
-returns c = linked-first _ _ _ _ _ (c .hash-of .ensures) (c .before .before .if1 .taken)
+returns c = linked-first _ _ _ _ _ (c .hash-of .ensures) (c .before .if1 .taken)
 
 sub-nexts : tie.Need-sub-nexts
 sub-nexts c = search needs

@@ -1,0 +1,98 @@
+-- The invariant: the links are right for the slots from i on.
+use Prim.Native.Nat.{_<_}
+use native.Mathlib.Omega.{arith}
+use lib.ListN.{length}
+use Rattle.entry_table.specs.Table.{table}
+use Rattle.entry_index.proofs.IndexLaws.{hash-below, links-index, no-heads, no-nexts}
+use Rattle.entry_index.proofs.BuildLaws.{Built, built-none, built-more, built-all}
+use Rattle.entry_index.proofs.links.build.Statement.{statement}
+use Rattle.entry_index.proofs.links.build.Tie as tie
+
+abbrev Inv-loop : tie.InvT-loop
+Inv-loop slots used heads₀ nexts₀ m i₀ heads nexts i = (0 < m) × Built m (table slots used) nexts₀ heads nexts i
+
+abbrev μ-loop : tie.MeasureT-loop
+μ-loop slots used heads₀ nexts₀ m i₀ heads nexts i = i
+
+returns : tie.Need-returns Inv-loop μ-loop
+returns c = (no-heads _ _ _ (omega (arith, c .if1 .taken)) refl, no-nexts _ _ _ (omega (arith, c .if1 .taken)))
+
+clear-requires : tie.Need-clear-requires Inv-loop μ-loop
+clear-requires c κs = tt
+
+clear-requires-2 : tie.Need-clear-requires-2 Inv-loop μ-loop
+clear-requires-2 c κs = tt
+
+loop-holds : tie.Need-loop-holds Inv-loop μ-loop
+loop-holds c = (omega (arith, c .before .before .before .before .before .before .before .before .if1 .left), built-none _ _ _ (c .before .before .before .before .before .before .clear .ensures) (c .before .before .clear2 .ensures))
+
+sub-i : tie.Need-sub-i Inv-loop μ-loop
+sub-i c = omega arith
+
+key-at-requires : tie.Need-key-at-requires Inv-loop μ-loop
+key-at-requires c κs = omega (arith, c .before .loop .inv .1 .near, c .before .before .before .before .before .before .before .before .before .before .before .before .before .before .pre .0)
+
+hash-of-requires : tie.Need-hash-of-requires Inv-loop μ-loop
+hash-of-requires c κs = c .before .before .loop .inv .0
+
+mul-nexts : tie.Need-mul-nexts Inv-loop μ-loop
+mul-nexts c = ?
+
+slice-read-nexts : tie.Need-slice-read-nexts Inv-loop μ-loop
+slice-read-nexts c = ?
+
+mul-nexts-2 : tie.Need-mul-nexts-2 Inv-loop μ-loop
+mul-nexts-2 c = ?
+
+slice-write-nexts : tie.Need-slice-write-nexts Inv-loop μ-loop
+slice-write-nexts c = ?
+
+add-heads : tie.Need-add-heads Inv-loop μ-loop
+add-heads c = ?
+
+mul-heads : tie.Need-mul-heads Inv-loop μ-loop
+mul-heads c = ?
+
+slice-write-heads : tie.Need-slice-write-heads Inv-loop μ-loop
+slice-write-heads c = ?
+
+loop-less : tie.Need-loop-less Inv-loop μ-loop
+loop-less c = ?
+
+loop-again : tie.Need-loop-again Inv-loop μ-loop
+loop-again c = ?
+
+same-length : tie.Need-same-length Inv-loop μ-loop
+same-length c = ?
+
+same-length-2 : tie.Need-same-length-2 Inv-loop μ-loop
+same-length-2 c = ?
+
+returns-2 : tie.Need-returns-2 Inv-loop μ-loop
+returns-2 c = ?
+
+pub build-spec : {M : Type 1} → statement M
+build-spec =
+    tie.close
+    (tie.spec
+    Inv-loop
+    μ-loop
+    returns
+    clear-requires
+    clear-requires-2
+    loop-holds
+    sub-i
+    key-at-requires
+    hash-of-requires
+    mul-nexts
+    slice-read-nexts
+    mul-nexts-2
+    slice-write-nexts
+    add-heads
+    mul-heads
+    slice-write-heads
+    loop-less
+    loop-again
+    same-length
+    same-length-2
+    returns-2)
