@@ -9,6 +9,7 @@ use borrow.Author.Tests.{lt-ltb, le-ltb, eq-eqb, ne-eqb, eqb-true, eqb-false}
 use lib.ListN.{length, getD, set, replicate, length-set, length-replicate, getD-replicate}
 use lib.Seq.{ext-getD, getD-set-same, getD-set-other}
 use lib.Dec.{ltb, leb, eqb}
+use Rattle.walk.proofs.ChoiceLaws.{cond-cases}
 use Rattle.entry_table.specs.Slots.{keyAt, rows}
 use Rattle.entry_table.specs.Table.{Table}
 use Rattle.entry_table.specs.declared.EntryKey.{EntryKey}
@@ -93,6 +94,10 @@ pub linked-behind : (heads nexts : List ℕ) (h last link : ℕ) → (last ≡ 0
     → (heads ≡ headsLinked heads h last link) × (set nexts (last - 1) link ≡ nextsLinked nexts last link)
 unfolding headsLinked nextsLinked
 linked-behind heads nexts h last link z = (rw (ne-eqb last 0 z), rw (ne-eqb last 0 z))
+
+pub length-linked : (nexts : List ℕ) (last link : ℕ) → length (nextsLinked nexts last link) ≡ length nexts
+unfolding nextsLinked
+length-linked nexts last link = cond-cases (λ (w : List ℕ). length w ≡ length nexts) (eqb last 0) (λ _. refl) (λ _. length-set nexts (last - 1) link)
 
 -- what the loop that sets words to 0 keeps: the first i of them are
 pub record Cleared (words₀ words : List ℕ) (i : ℕ) : Type 0 where
