@@ -177,4 +177,7 @@ module _ (m : ℕ) (s s′ : List ℕ) (used g : ℕ) (kept : (j : ℕ) → j < 
     pub links-more : (last : ℕ) → LastOf m (table s used) g last → Links m (table s′ (used + 1)) (headsLinked heads g last (used + 1)) (nextsLinked nexts last (used + 1))
     unfolding following LinkOf headsLinked nextsLinked
     links-more zero d = links-first (d .none)
-    links-more (suc q) d = let e : suc q - 1 ≡ q = omega arith in rw e (links-behind q (d .is .0) (d .is .1) (d .none))
+    links-more (suc q) d =
+        let e : suc q - 1 ≡ q = omega arith in
+        let n : suc q ≡ 0 → ⊥ = λ z. omega arith in
+        rw (headsLinked, nextsLinked, ne-eqb (suc q) 0 n, e) (links-behind q (d .is .0) (d .is .1) (d .none))
