@@ -1,0 +1,5 @@
+pub mod IndexLaws
+pub mod ProbeLaws
+pub mod BuildLaws
+pub mod KeepLaws
+pub mod AddLaws
