@@ -3,3 +3,4 @@ pub mod ProbeLaws
 pub mod BuildLaws
 pub mod KeepLaws
 pub mod AddLaws
+pub mod SeedLaws
