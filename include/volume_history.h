@@ -114,6 +114,15 @@ struct table_seeded table_seed_entries(const uint8_t *journal, size_t journal_le
                                        uint64_t *slots, size_t slots_len, size_t used, const struct mft_carved_entry *entries,
                                        size_t entries_len);
 
+/* table_seed_indexed: table_seed in time that grows with the entries and not with the entries times the slots. heads and nexts are
+ * words for an index of the table, whatever they hold: as many heads as there are slots are a good number, and one next for each slot
+ * is needed. Where there is no head, or fewer nexts than slots, the call does without an index, and does the same. What they hold
+ * after it is of no use but to the call; a refused call leaves them alone.
+ * Refuses: 5, 9, 7 and 6 as table_seed. */
+uint32_t table_seed_indexed(const uint8_t *journal, size_t journal_len, const uint8_t *image, size_t image_len, uint64_t *slots,
+                            size_t slots_len, size_t used, const uint64_t *entries, size_t entries_len, uint64_t *heads,
+                            size_t heads_len, uint64_t *nexts, size_t nexts_len, uint64_t *out, size_t out_len);
+
 /* What the names of a path hang under. */
 enum path_end {
     PATH_END_ROOT = 0,       /* entry 5; the text begins with a full stop */
@@ -195,8 +204,7 @@ enum rewind_step_word {
  * front of text as UTF-8, and the places of its parent's path to chain, as path_resolve leaves them. The REWIND_STEP_WORDS words go
  * to out, or the first three where no record is left. A step that 8 refused has changed nothing: repeat it with a larger text, or
  * call rewind_next_chain.
- * Every call tests every record that it is lent and every used slot. A caller with many records lends, after the start, the one
- * record that is next, with position 0: the step is the same, and the time for all records does not grow with their square.
+ * Every call tests every record that it is lent and every used slot: for many records call rewind_run.
  * Refuses: 5 out has fewer than 8 words; 1 journal or image is above the domain; 9 used is above the slots; 12 at a listed offset
  * stands no record; 7 the name's place of a used slot is outside its slice; 6 the record's key is new and no slot is left; 8 the
  * text is too small. */
@@ -210,6 +218,36 @@ uint32_t rewind_next(const uint8_t *journal, size_t journal_len, const uint8_t *
 uint32_t rewind_next_chain(const uint8_t *journal, size_t journal_len, const uint8_t *image, size_t image_len,
                            const size_t *records, size_t records_len, size_t used, size_t position, uint64_t *forward,
                            size_t forward_len, uint64_t *chain, size_t chain_len, uint64_t *out, size_t out_len);
+
+/* rewind_start_indexed: rewind_start in time that grows with the records, by way of an index as table_seed_indexed has it. The used
+ * slots and the records together must not be more than the slots of either table for that: otherwise the different new keys are
+ * counted, which takes the records times the slots.
+ * Refuses: 5, 1, 9, 12, 7 and 6 as rewind_start. */
+uint32_t rewind_start_indexed(const uint8_t *journal, size_t journal_len, const uint8_t *image, size_t image_len,
+                              const size_t *records, size_t records_len, uint64_t *slots, size_t slots_len, size_t used,
+                              uint64_t *forward, size_t forward_len, uint64_t *heads, size_t heads_len, uint64_t *nexts,
+                              size_t nexts_len, uint64_t *out, size_t out_len);
+
+/* The words of a run's answer, by their index. */
+enum rewind_run_word {
+    REWIND_RUN_STEPS = 0,    /* how many steps were made */
+    REWIND_RUN_REFUSAL = 1,  /* 0, or the refusal of the step before which the run stopped */
+    REWIND_RUN_USED = 2,     /* the state after the last step that was made */
+    REWIND_RUN_POSITION = 3,
+    REWIND_RUN_WORDS = 4
+};
+
+/* rewind_run: many steps of rewind_next in one call, which tests once what they test each, by way of an index of forward as
+ * table_seed_indexed has it. As many steps are made as ends has words, unless a step would be refused or no record is left. The
+ * steps' paths go to the front of text, one behind the other, and where each of them ends to ends; no chain is written. The
+ * REWIND_RUN_WORDS words go to out: a step that would be refused, by 8 where its path passes the text, has changed nothing, and a
+ * further run goes on with it. Fewer steps than ends has words, and no refusal: no record is left. Lend all records at every run, with
+ * the state that the run before gave.
+ * Refuses: 5 out has fewer than 4 words. All other refusals of rewind_next go to out. */
+uint32_t rewind_run(const uint8_t *journal, size_t journal_len, const uint8_t *image, size_t image_len, const size_t *records,
+                    size_t records_len, size_t used, size_t position, uint64_t *forward, size_t forward_len, uint64_t *heads,
+                    size_t heads_len, uint64_t *nexts, size_t nexts_len, uint64_t *ends, size_t ends_len, uint8_t *text,
+                    size_t text_len, uint64_t *out, size_t out_len);
 
 #ifdef __cplusplus
 }
