@@ -517,6 +517,12 @@ pub fn rewind_start_indexed(
     }
 }
 
+/// What a run writes paths to: where each ends, and their bytes, one behind the other.
+pub struct Texts<'a> {
+    pub ends: &'a mut [u64],
+    pub text: &'a mut [u8],
+}
+
 /// As many steps over the listed records as `ends` has words: each record goes into `forward`, its path behind those before it in
 /// `text`, and where it ends to `ends`. The words of `state`, the used slots and the records behind, come in and are those after
 /// the last step. The words of `out` are the steps, 0 or the refusal of the step before which it stopped, and the state again.
@@ -526,8 +532,7 @@ pub fn rewind_run(
     state: [usize; 2],
     forward: &mut [u64],
     index: &mut Index,
-    ends: &mut [u64],
-    text: &mut [u8],
+    Texts { ends, text }: Texts,
     out: &mut [u64; 4],
 ) -> u32 {
     let [used, position] = state;

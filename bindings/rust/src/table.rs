@@ -3,7 +3,7 @@
 //! The library knows a name as a place in the journal or in the image. Here all names are kept as UTF-16 in one slice of our own,
 //! which is lent to it for both, so that a place means the same bytes whatever source a slot has.
 
-use crate::calls::{self, Index, ENTRY_WORDS, SLOT_NAME_LENGTH, SLOT_NAME_OFFSET, SLOT_WORDS};
+use crate::calls::{self, Index, Texts, ENTRY_WORDS, SLOT_NAME_LENGTH, SLOT_NAME_OFFSET, SLOT_WORDS};
 use crate::carve::CarvedMftEntry;
 use crate::error::{index as number, ruled_out, MAX_SLICE, TABLE_FULL, TEXT_FULL};
 use crate::rewind::EntryKey;
@@ -283,7 +283,11 @@ fn run(names: &[u8], list: &[usize], mut state: [usize; 2], forward: &mut [u64],
     while texts.len() < records {
         let asked = &mut ends[texts.len()..];
         let mut out = [0; 4];
-        match calls::rewind_run(names, list, state, forward, index, asked, &mut text, &mut out) {
+        let lent = Texts {
+            ends: asked,
+            text: &mut text,
+        };
+        match calls::rewind_run(names, list, state, forward, index, lent, &mut out) {
             0 => {}
             refusal => ruled_out("rewind_run", refusal),
         }

@@ -132,6 +132,24 @@ mod declared {
             out_len: usize,
         ) -> u32;
 
+        pub fn table_seed_indexed(
+            journal: *const u8,
+            journal_len: usize,
+            image: *const u8,
+            image_len: usize,
+            slots: *mut u64,
+            slots_len: usize,
+            used: usize,
+            entries: *const u64,
+            entries_len: usize,
+            heads: *mut u64,
+            heads_len: usize,
+            nexts: *mut u64,
+            nexts_len: usize,
+            out: *mut u64,
+            out_len: usize,
+        ) -> u32;
+
         pub fn table_seed_entries(
             journal: *const u8,
             journal_len: usize,
@@ -266,6 +284,37 @@ pub fn table_seed(names: Sources, slots: &mut [u64], used: usize, entries: &[u64
             used,
             entries.as_ptr(),
             entries.len(),
+            out.as_mut_ptr(),
+            out.len(),
+        )
+    }
+}
+
+/// The same by way of an index in the words of heads and nexts.
+pub fn table_seed_indexed(
+    names: Sources,
+    slots: &mut [u64],
+    used: usize,
+    entries: &[u64],
+    [heads, nexts]: [&mut [u64]; 2],
+    out: &mut [u64],
+) -> u32 {
+    // SAFETY: as above.
+    unsafe {
+        declared::table_seed_indexed(
+            names.journal.as_ptr(),
+            names.journal.len(),
+            names.image.as_ptr(),
+            names.image.len(),
+            slots.as_mut_ptr(),
+            slots.len(),
+            used,
+            entries.as_ptr(),
+            entries.len(),
+            heads.as_mut_ptr(),
+            heads.len(),
+            nexts.as_mut_ptr(),
+            nexts.len(),
             out.as_mut_ptr(),
             out.len(),
         )

@@ -3,6 +3,7 @@
 
 pub mod cases;
 pub mod edges;
+pub mod index;
 pub mod library;
 pub mod lists;
 pub mod model;

@@ -1,9 +1,10 @@
 //! Our table beside the scope's and the Rust's, given the same calls: every answer, every word and every path is
 //! compared. A refused call changes nothing of ours and is left out on the Rust's side.
 
+use super::index::{sizes, Index};
 use super::library::{
-    path_chain, path_resolve, table_insert, table_insert_if_absent, table_seed, table_seed_entries, CarvedEntry, Key,
-    Slots, Sources, CHAIN_WORDS, PATH_FIELDS, SLOT_FIELDS, SLOT_WORDS, TABLE_FIELDS,
+    path_chain, path_resolve, table_insert, table_insert_if_absent, table_seed, table_seed_entries, table_seed_indexed,
+    CarvedEntry, Key, Slots, Sources, CHAIN_WORDS, PATH_FIELDS, SLOT_FIELDS, SLOT_WORDS, TABLE_FIELDS,
 };
 use super::lists::{word_against, Lists, Room, Written};
 use super::model::{self, bytes_at, carved, key, parent, place, Chain, Slot, Table};
@@ -140,6 +141,7 @@ impl<'a> Pair<'a> {
             false => self.model.store(given.names, given.used, &slots, replace),
         };
         let structs = self.seed_structs(given, added);
+        let indexed = self.seed_indexed(given, added, out);
         let mut answer: Vec<u64> = (0..out + BEHIND).map(untouched).collect();
         let number = self.call(given, added, &mut answer[..out]);
         let used = expected.map(|used| used as u64);
@@ -164,6 +166,21 @@ impl<'a> Pair<'a> {
                     what: "it answers or leaves something else than seeding from the flat list".to_string(),
                     rust: format!("the scope: {expected:?}, {}", shown(&self.model, self.used)),
                     ours: format!("{answer:?}, words {slots:?}"),
+                });
+            }
+        }
+        if let Some((by_index, words, slots, sizes, index)) = indexed {
+            let left = expected.ok().map(|used| (&self.model, used));
+            let what = match (by_index, &words, &slots) == (number, &answer, &self.slots) {
+                true => index.against(&Index::after(sizes, left)),
+                false => Some("it answers or leaves something else than seeding without an index".to_string()),
+            };
+            if let Some(what) = what {
+                return Err(Finding {
+                    call: format!("by way of an index, {sizes:?} lent: {added:?}, {} used", given.used),
+                    what,
+                    rust: format!("the scope: {expected:?}, {}", shown(&self.model, self.used)),
+                    ours: format!("{by_index}, words {words:?}, {slots:?}, {index:?}"),
                 });
             }
         }
@@ -203,6 +220,27 @@ impl<'a> Pair<'a> {
             refusal => Err(refusal),
         };
         Some((answer, slots))
+    }
+
+    /// Seeds a copy of our table by way of an index: the answer with its words, those of the table, and the index with the
+    /// words lent for it.
+    #[allow(clippy::type_complexity)]
+    fn seed_indexed(
+        &self,
+        given: Given,
+        added: Added,
+        out: usize,
+    ) -> Option<(u32, Vec<u64>, Vec<u64>, [usize; 2], Index)> {
+        let Added::Listed { entries, .. } = added else {
+            return None;
+        };
+        let sizes = sizes(self.model.slots(), self.slots.len() + given.used.min(8) + entries.len());
+        let mut slots = self.slots.clone();
+        let mut answer: Vec<u64> = (0..out + BEHIND).map(untouched).collect();
+        let mut index = Index::of(sizes);
+        let lent = &mut slots[..self.model.words.len()];
+        let number = table_seed_indexed(given.names, lent, given.used, entries, index.lent(), &mut answer[..out]);
+        Some((number, answer, slots, sizes, index))
     }
 
     /// The Rust's table has as many keys as ours.

@@ -2,11 +2,13 @@
 //! refused.
 
 use super::calls::{next, start, Both, Told};
-use super::library::{State, START_WORDS};
+use super::library::{State, RUN_WORDS, START_WORDS};
 use super::model::Listed;
+use super::runs::{run, Asked};
 use super::whole::{Before, Caller, Rewound, REFUSALS};
 use crate::difference::Finding;
 use crate::lent::untouched;
+use crate::paths::index::sizes;
 use crate::paths::library::{Sources, SLOT_WORDS};
 use crate::paths::lists::Room;
 use crate::random::Random;
@@ -165,7 +167,15 @@ impl<'a> Caller<'a> for Beside<'a> {
         let used = handed.used;
         let mut forward = Both::new(handed.table);
         let listed = Listed::of(handed.names, &handed.list);
-        let answer = next(&listed, &mut forward, State { used, position }, told, room)?;
+        let state = State { used, position };
+        let asked = Asked {
+            steps: self.random.below(4),
+            text: room.text,
+            out: self.random.between(RUN_WORDS - 1, RUN_WORDS + 1),
+            index: sizes(forward.model.slots(), self.random.below(6)),
+        };
+        run(&listed, &mut forward.clone(), state, asked)?;
+        let answer = next(&listed, &mut forward, state, told, room)?;
         self.tally(answer.err());
         Ok(())
     }

@@ -2,13 +2,14 @@
 //! every byte of the text is compared, those behind what is lent too.
 
 use super::library::{
-    rewind_next, rewind_next_chain, rewind_start, State, CHAIN_STEP_WORDS, END, PATH_STEP_WORDS, RECORD, START_FIELDS,
-    START_WORDS, STEP_FIELDS,
+    rewind_next, rewind_next_chain, rewind_start, rewind_start_indexed, State, CHAIN_STEP_WORDS, END, PATH_STEP_WORDS,
+    RECORD, START_FIELDS, START_WORDS, STEP_FIELDS,
 };
 use super::model::{Listed, Next, Step};
 use crate::difference::Finding;
 use crate::lent::{beginning, untouched, BEHIND};
 use crate::library::{ACCEPTED, NO_ROOM, TEXT_TOO_SMALL};
+use crate::paths::index::{sizes, Index};
 use crate::paths::library::{SLOT_FIELDS, SLOT_WORDS};
 use crate::paths::lists::{word_against, Lists, Room, Written};
 use crate::paths::model::Table;
@@ -46,12 +47,12 @@ impl Both {
         &self.ours[..self.model.words.len()]
     }
 
-    fn lent_mut(&mut self) -> &mut [u64] {
+    pub fn lent_mut(&mut self) -> &mut [u64] {
         &mut self.ours[..self.model.words.len()]
     }
 
     /// The first of our words that is not the scope's.
-    fn against(&self, name: &str) -> Option<String> {
+    pub fn against(&self, name: &str) -> Option<String> {
         let (at, word) = word_against(&self.ours, &self.model.words)?;
         let (slot, field) = (at / SLOT_WORDS, SLOT_FIELDS[at % SLOT_WORDS]);
         Some(format!(
@@ -79,7 +80,7 @@ impl Told {
 }
 
 /// Where the records lie, and in how many bytes, as it is printed.
-fn shown(listed: &Listed) -> String {
+pub fn shown(listed: &Listed) -> String {
     let Listed { names, words, .. } = listed;
     format!(
         "list {:?}, journal of {} and image of {} bytes",
@@ -102,6 +103,7 @@ pub fn start(
         false => listed.start(&mut first.model, used, &mut forward.model),
     };
     let mut answer: Vec<u64> = (0..out + BEHIND).map(untouched).collect();
+    let mut by_index = (first.ours.clone(), forward.ours.clone(), answer.clone());
     let number = rewind_start(
         listed.names,
         listed.words,
@@ -121,7 +123,27 @@ pub fn start(
             Some(format!("{field} is {}, not {word}", answer[at]))
         })
         .or_else(|| first.against("first"))
-        .or_else(|| forward.against("forward"));
+        .or_else(|| forward.against("forward"))
+        .or_else(|| {
+            // The same on copies by way of an index.
+            let sizes = sizes(first.model.slots(), listed.words.len() + first.ours.len());
+            let mut index = Index::of(sizes);
+            let (slots, copy, words) = &mut by_index;
+            let indexed = rewind_start_indexed(
+                listed.names,
+                listed.words,
+                &mut slots[..first.model.words.len()],
+                used,
+                &mut copy[..forward.model.words.len()],
+                index.lent(),
+                &mut words[..out],
+            );
+            let left = expected.ok().map(|state| (&first.model, state.used));
+            match (indexed, slots, copy, words) == (number, &mut first.ours, &mut forward.ours, &mut answer) {
+                true => index.against(&Index::after(sizes, left)),
+                false => Some("by way of an index it answers or leaves something else".to_string()),
+            }
+        });
     let Some(what) = what else { return Ok(expected) };
     Err(Finding {
         call: format!(

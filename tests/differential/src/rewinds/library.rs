@@ -33,6 +33,12 @@ pub const CHAIN_STEP_WORDS: usize = PATH_STEP_WORDS - 1;
 pub const END: u64 = 0;
 pub const RECORD: u64 = 1;
 
+/// The words of a run's answer.
+pub const RUN_FIELDS: [&str; 4] = ["steps", "refusal", "used", "position"];
+
+/// How many these are.
+pub const RUN_WORDS: usize = RUN_FIELDS.len();
+
 /// How many slots of the forward table are used, and how many records are behind.
 #[derive(Debug, Clone, Copy, PartialEq, Eq)]
 pub struct State {
@@ -58,6 +64,26 @@ mod declared {
             out_len: usize,
         ) -> u32;
 
+        pub fn rewind_start_indexed(
+            journal: *const u8,
+            journal_len: usize,
+            image: *const u8,
+            image_len: usize,
+            records: *const usize,
+            records_len: usize,
+            slots: *mut u64,
+            slots_len: usize,
+            used: usize,
+            forward: *mut u64,
+            forward_len: usize,
+            heads: *mut u64,
+            heads_len: usize,
+            nexts: *mut u64,
+            nexts_len: usize,
+            out: *mut u64,
+            out_len: usize,
+        ) -> u32;
+
         pub fn rewind_next(
             journal: *const u8,
             journal_len: usize,
@@ -71,6 +97,29 @@ mod declared {
             forward_len: usize,
             chain: *mut u64,
             chain_len: usize,
+            text: *mut u8,
+            text_len: usize,
+            out: *mut u64,
+            out_len: usize,
+        ) -> u32;
+
+        pub fn rewind_run(
+            journal: *const u8,
+            journal_len: usize,
+            image: *const u8,
+            image_len: usize,
+            records: *const usize,
+            records_len: usize,
+            used: usize,
+            position: usize,
+            forward: *mut u64,
+            forward_len: usize,
+            heads: *mut u64,
+            heads_len: usize,
+            nexts: *mut u64,
+            nexts_len: usize,
+            ends: *mut u64,
+            ends_len: usize,
             text: *mut u8,
             text_len: usize,
             out: *mut u64,
@@ -186,6 +235,78 @@ pub fn rewind_next_chain(
             chain.len(),
             out.as_mut_ptr(),
             out.len(),
+        )
+    }
+}
+
+/// The start by way of an index in the words of heads and nexts.
+pub fn rewind_start_indexed(
+    names: Sources,
+    records: &[usize],
+    slots: &mut [u64],
+    used: usize,
+    forward: &mut [u64],
+    [heads, nexts]: [&mut [u64]; 2],
+    out: &mut [u64],
+) -> u32 {
+    // SAFETY: as above.
+    unsafe {
+        declared::rewind_start_indexed(
+            names.journal.as_ptr(),
+            names.journal.len(),
+            names.image.as_ptr(),
+            names.image.len(),
+            records.as_ptr(),
+            records.len(),
+            slots.as_mut_ptr(),
+            slots.len(),
+            used,
+            forward.as_mut_ptr(),
+            forward.len(),
+            heads.as_mut_ptr(),
+            heads.len(),
+            nexts.as_mut_ptr(),
+            nexts.len(),
+            out.as_mut_ptr(),
+            out.len(),
+        )
+    }
+}
+
+/// What a run is lent beside the records and the table.
+pub struct RunLent<'a> {
+    pub index: [&'a mut [u64]; 2],
+    pub ends: &'a mut [u64],
+    pub text: &'a mut [u8],
+    pub out: &'a mut [u64],
+}
+
+/// As many steps as ends are lent, with the texts one behind the other; `out` takes the `RUN_FIELDS`.
+pub fn rewind_run(names: Sources, records: &[usize], state: State, forward: &mut [u64], lent: RunLent) -> u32 {
+    let [heads, nexts] = lent.index;
+    // SAFETY: as above.
+    unsafe {
+        declared::rewind_run(
+            names.journal.as_ptr(),
+            names.journal.len(),
+            names.image.as_ptr(),
+            names.image.len(),
+            records.as_ptr(),
+            records.len(),
+            state.used,
+            state.position,
+            forward.as_mut_ptr(),
+            forward.len(),
+            heads.as_mut_ptr(),
+            heads.len(),
+            nexts.as_mut_ptr(),
+            nexts.len(),
+            lent.ends.as_mut_ptr(),
+            lent.ends.len(),
+            lent.text.as_mut_ptr(),
+            lent.text.len(),
+            lent.out.as_mut_ptr(),
+            lent.out.len(),
         )
     }
 }

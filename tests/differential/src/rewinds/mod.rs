@@ -9,6 +9,7 @@ mod histories;
 mod library;
 mod model;
 mod refusals;
+mod runs;
 pub mod sample;
 mod whole;
 

@@ -73,7 +73,7 @@ impl<'a> Listed<'a> {
     }
 
     /// The entries, or the refusal of a call over a table.
-    fn tested(&self, table: &Table, used: usize) -> Result<&[Entry], u32> {
+    pub fn tested(&self, table: &Table, used: usize) -> Result<&[Entry], u32> {
         if above_domain(self.names) {
             return Err(ABOVE_DOMAIN);
         }

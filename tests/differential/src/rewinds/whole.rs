@@ -3,6 +3,7 @@
 use super::calls::{next, start, Both, Told};
 use super::library::{State, START_WORDS};
 use super::model::{Listed, Next, Step};
+use super::runs;
 use crate::difference::Finding;
 use crate::library::{ACCEPTED, TEXT_TOO_SMALL};
 use crate::names::comparison::hex;
@@ -126,6 +127,7 @@ pub fn rewind<'a>(
             ours: keys.to_string(),
         });
     }
+    runs::whole(listed, &forward, state)?;
     let mut rewound = Rewound { listed, forward, state };
     for record in &resolved {
         caller.between(&rewound)?;
