@@ -1,0 +1,54 @@
+//! The time for each record at each size: where it grows with the size, the whole time grows faster than the records.
+
+use crate::table::shown;
+use std::time::Duration;
+
+pub struct Curve<'a> {
+    sizes: &'a [usize],
+    lines: Vec<Line>,
+}
+
+/// The times of ours and of the Rust's for one thing, a size after another.
+struct Line {
+    what: &'static str,
+    times: [Vec<Option<Duration>>; 2],
+}
+
+impl<'a> Curve<'a> {
+    pub fn new(sizes: &'a [usize]) -> Self {
+        Self {
+            sizes,
+            lines: Vec::new(),
+        }
+    }
+
+    /// Adds the times for each record at the next size.
+    pub fn add(&mut self, what: &'static str, times: [Option<Duration>; 2]) {
+        let at = self.lines.iter().position(|line| line.what == what);
+        let at = at.unwrap_or_else(|| {
+            let times = [Vec::new(), Vec::new()];
+            self.lines.push(Line { what, times });
+            self.lines.len() - 1
+        });
+        for (line, time) in self.lines[at].times.iter_mut().zip(times) {
+            line.push(time);
+        }
+    }
+
+    pub fn print(&self) {
+        println!("Nanoseconds for each entry seeded and each record rewound, by the records of the journal:");
+        println!();
+        let sizes: Vec<String> = self.sizes.iter().map(|size| format!("{size:>9}")).collect();
+        println!("| {:<34} | {} |", "what", sizes.join(" | "));
+        println!("|{:-<36}|{}", "", "----------:|".repeat(sizes.len()));
+        for line in &self.lines {
+            for (side, times) in ["ours", "the Rust's"].iter().zip(&line.times) {
+                let what = format!("{}, {side}", line.what);
+                let nanoseconds = |time: &Option<Duration>| shown(time.map(|time| time.as_nanos() as f64), 0);
+                let times: Vec<String> = times.iter().map(|time| format!("{:>9}", nanoseconds(time))).collect();
+                println!("| {what:<34} | {} |", times.join(" | "));
+            }
+        }
+        println!();
+    }
+}
