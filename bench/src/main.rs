@@ -6,6 +6,7 @@
 
 mod allocation;
 mod cost;
+mod grid;
 mod image;
 mod journal;
 mod names;

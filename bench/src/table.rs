@@ -2,6 +2,7 @@
 
 use crate::allocation;
 use crate::cost::Cost;
+use crate::grid::{shown, Grid};
 use crate::sum::Sum;
 use std::time::Duration;
 
@@ -99,34 +100,28 @@ impl Table {
             Unit::Bytes => "MB/s",
             Unit::Records => "records/s",
         };
-        let [ours, rust] = [format!("ours {unit}"), format!("the Rust's {unit}")];
-        let [our_peak, rust_peak] = ["our peak MB", "the Rust's peak MB"];
-        println!(
-            "| {:<34} | {ours} | {rust} | ratio | {our_peak} | {rust_peak} |",
-            "what"
-        );
-        let line = |width: usize| "-".repeat(width + 1) + ":";
-        let lines = [ours.len(), rust.len(), 5, our_peak.len(), rust_peak.len()].map(line);
-        println!("|{:-<36}|{}|", "", lines.join("|"));
+        let mut grid = Grid::new(vec![
+            "what".to_string(),
+            format!("ours {unit}"),
+            format!("the Rust's {unit}"),
+            "ratio".to_string(),
+            "our peak MB".to_string(),
+            "the Rust's peak MB".to_string(),
+        ]);
         for row in &self.rows {
             let rates = row.costs.map(|cost| cost.map(|cost| self.rate(row.size, cost.time)));
             let ratio = rates[0].zip(rates[1]).map(|(ours, rust)| ours / rust);
             let peaks = row.costs.map(|cost| cost.map(|cost| cost.memory as f64 / 1e6));
-            println!(
-                "| {:<34} | {:>our_width$} | {:>rust_width$} | {:>5} | {:>our_peak_width$} | {:>rust_peak_width$} |",
-                row.what,
+            grid.add(vec![
+                row.what.clone(),
                 shown(rates[0], 0),
                 shown(rates[1], 0),
                 shown(ratio, 2),
                 shown(peaks[0], 1),
                 shown(peaks[1], 1),
-                our_width = ours.len(),
-                rust_width = rust.len(),
-                our_peak_width = our_peak.len(),
-                rust_peak_width = rust_peak.len(),
-            );
+            ]);
         }
-        println!();
+        grid.print();
     }
 
     fn rate(&self, size: usize, time: Duration) -> f64 {
@@ -147,9 +142,4 @@ impl Task {
             false => Err(format!("{what}: {given:?}, not {:?}", self.expected)),
         }
     }
-}
-
-/// A number with so many digits behind the point, or a dash.
-pub fn shown(number: Option<f64>, digits: usize) -> String {
-    number.map_or("-".to_string(), |number| format!("{number:.digits$}"))
 }

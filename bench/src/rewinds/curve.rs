@@ -1,6 +1,7 @@
 //! The time for each record at each size: where it grows with the size, the whole time grows faster than the records.
 
-use crate::table::shown;
+use crate::grid::{shown, Grid};
+use std::iter;
 use std::time::Duration;
 
 pub struct Curve<'a> {
@@ -38,17 +39,17 @@ impl<'a> Curve<'a> {
     pub fn print(&self) {
         println!("Nanoseconds for each entry seeded and each record rewound, by the records of the journal:");
         println!();
-        let sizes: Vec<String> = self.sizes.iter().map(|size| format!("{size:>9}")).collect();
-        println!("| {:<34} | {} |", "what", sizes.join(" | "));
-        println!("|{:-<36}|{}", "", "----------:|".repeat(sizes.len()));
+        let sizes = self.sizes.iter().map(usize::to_string);
+        let mut grid = Grid::new(iter::once("what".to_string()).chain(sizes).collect());
         for line in &self.lines {
             for (side, times) in ["ours", "the Rust's"].iter().zip(&line.times) {
                 let what = format!("{}, {side}", line.what);
-                let nanoseconds = |time: &Option<Duration>| shown(time.map(|time| time.as_nanos() as f64), 0);
-                let times: Vec<String> = times.iter().map(|time| format!("{:>9}", nanoseconds(time))).collect();
-                println!("| {what:<34} | {} |", times.join(" | "));
+                let times = times
+                    .iter()
+                    .map(|time| shown(time.map(|time| time.as_nanos() as f64), 0));
+                grid.add(iter::once(what).chain(times).collect());
             }
         }
-        println!();
+        grid.print();
     }
 }

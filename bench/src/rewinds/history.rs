@@ -29,6 +29,9 @@ const OLD_NAME: u32 = 0x1000;
 const NEW_NAME: u32 = 0x2000;
 const CLOSE: u32 = 0x8000_0000;
 
+/// The image has every entry of the oldest files and folders, one in so many, among which are the upper folders.
+const OLDEST: usize = 8;
+
 pub struct History {
     pub journal: Vec<u8>,
     pub image: Vec<u8>,
@@ -170,14 +173,15 @@ fn name(node: &Node) -> Vec<u16> {
     short_name(&mut Random::of_case(node.name, 0, 0))
 }
 
-/// The image of so many entries, the nodes of which are any, in the order of their numbers. Those that are not in use are as they
-/// were last.
+/// The image of so many entries in the order of their numbers: the oldest nodes, and any of the others. Those that are not in use are
+/// as they were last.
 fn image(random: &mut Random, tree: &Tree, entries: usize) -> Vec<u8> {
     let mut image = Vec::with_capacity(ENTRY * entries);
     let nodes = &tree.nodes[1..];
     let mut wanted = entries;
     for (at, node) in nodes.iter().enumerate() {
-        if random.below(nodes.len() - at) >= wanted {
+        // Each of the others with the chance by which as many as are wanted come together.
+        if at >= entries / OLDEST && random.below(nodes.len() - at) >= wanted {
             continue;
         }
         wanted -= 1;
