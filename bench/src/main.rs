@@ -140,8 +140,8 @@ fn measure_journal(options: &Options) -> Result<(), String> {
         let rust = || rust(journal);
         let fields = || lister.list_and_fields(journal, room.cleared());
         let uncleared = || lister.list_and_fields(journal, room.fresh());
-        let list = || lister.list(journal, room.cleared());
-        let just_full = || lister.list(journal, room.just_full().cleared());
+        let list = || lister.list(journal, room.list_only().cleared());
+        let just_full = || lister.list(journal, room.just_full().list_only().cleared());
         let what = |rest: &str| format!("{name}, {rest}");
         table.add(&what("list and fields"), &task, Some(&fields), Some(&rust))?;
         table.add(
@@ -179,8 +179,8 @@ fn measure_image(options: &Options) -> Result<(), String> {
     let rust = || rust::image(image);
     let text = || ours::image_list_and_text(image, room.cleared());
     let uncleared = || ours::image_list_and_text(image, room.fresh());
-    let list = || ours::image_list(image, room.cleared());
-    let just_full = || ours::image_list(image, room.just_full().cleared());
+    let list = || ours::image_list(image, room.list_only().cleared());
+    let just_full = || ours::image_list(image, room.just_full().list_only().cleared());
     table.add("image, list and text", &task, Some(&text), Some(&rust))?;
     table.add("image, list and text, uncleared", &task, Some(&uncleared), Some(&rust))?;
     table.add("image, list only", &task, Some(&list), None)?;

@@ -50,6 +50,11 @@ impl Room {
         }
     }
 
+    /// The same without the words of the records, for the list alone.
+    pub fn list_only(self) -> Self {
+        Self { records: 0, ..self }
+    }
+
     /// Memory that the system has not given pages to.
     pub fn fresh(self) -> Memory {
         Memory {
@@ -71,6 +76,7 @@ impl Lister {
     /// The list alone is timed.
     pub fn list(self, journal: &[u8], mut memory: Memory) -> (Cost, Sum) {
         let (cost, records) = clock(|| self.listed(journal, &mut memory));
+        memory.fields.resize(WORDS * records, 0);
         fields(journal, &mut memory, records);
         (cost, memory.sum(records))
     }
@@ -171,11 +177,16 @@ impl ImageRoom {
         }
     }
 
+    /// The same without the texts, for the list alone.
+    pub fn list_only(self) -> Self {
+        Self { entries: 0, ..self }
+    }
+
     /// Memory that the system has not given pages to.
     pub fn fresh(self) -> ImageMemory {
         ImageMemory {
             list: vec![0; ENTRY_WORDS * (self.image / ENTRY)],
-            texts: Texts::fresh(self.entries, LONGEST_TEXT * self.entries),
+            texts: name_texts(self.entries),
         }
     }
 
@@ -191,6 +202,7 @@ impl ImageRoom {
 /// The list alone is timed.
 pub fn image_list(image: &[u8], mut memory: ImageMemory) -> (Cost, Sum) {
     let (cost, entries) = clock(|| carved(image, &mut memory));
+    memory.texts = name_texts(entries);
     entry_texts(image, &mut memory, entries);
     (cost, memory.sum(entries))
 }
@@ -234,6 +246,11 @@ impl ImageMemory {
     }
 }
 
+/// Room for the texts of so many names, in memory that the system has not given pages to.
+fn name_texts(names: usize) -> Texts {
+    Texts::fresh(names, LONGEST_TEXT * names)
+}
+
 /// Writes the text of a name; gives its length.
 fn decoded(name: &[u8], text: &mut [u8]) -> usize {
     let mut out = [0];
@@ -244,8 +261,8 @@ fn decoded(name: &[u8], text: &mut [u8]) -> usize {
 
 /// The texts of all names are kept.
 pub fn names(names: &Names) -> (Cost, Sum) {
-    let count = names.ends.len();
-    let mut texts = Texts::cleared(count, LONGEST_TEXT * count);
+    let mut texts = black_box(name_texts(names.ends.len()));
+    texts.clear();
     let (cost, ()) = clock(|| texts.write(names.iter(), decoded));
     let mut sum = Sum::default();
     texts.iter().for_each(|text| sum.add_text(text));

@@ -93,7 +93,7 @@ impl Table {
             LONG.as_secs()
         );
         println!("What we are lent to write is cleared before the time begins, unless the row says uncleared; the Rust takes its");
-        println!("memory within the time. Its names are text; ours are places, unless the row says text or path.");
+        println!("memory within the time. Its names are text; ours are places, unless the row says text or paths.");
         println!("Peak: the most bytes allocated at once during the call, with what is lent to it and what it gives.");
         println!();
         let unit = match self.unit {

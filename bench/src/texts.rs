@@ -1,6 +1,5 @@
 //! Texts in lent memory.
 
-use std::hint::black_box;
 use std::iter;
 
 /// Texts one after another, and where each of them ends.
@@ -16,13 +15,6 @@ impl Texts {
             text: vec![0; bytes],
             ends: vec![0; texts],
         }
-    }
-
-    /// The same in memory that has been written.
-    pub fn cleared(texts: usize, bytes: usize) -> Self {
-        let mut fresh = black_box(Self::fresh(texts, bytes));
-        fresh.clear();
-        fresh
     }
 
     pub fn clear(&mut self) {

@@ -55,7 +55,8 @@ pub fn rewind(history: &History, expected: &Sum) -> (Cost, Sum) {
     let mut slots = Slots::cleared(room);
     slots.seed(names, &carved(history));
     let mut forward = Slots::cleared(room);
-    let mut texts = Texts::cleared(history.records, expected.text);
+    let mut texts = black_box(Texts::fresh(history.records, expected.text));
+    texts.clear();
     let (cost, ()) = clock(|| {
         start(names, &records, &mut slots, &mut forward);
         // Each step is lent the one record that it is about: it tests all that it is lent.

@@ -114,12 +114,12 @@ impl Tree {
 
     /// Gives a file or folder another name, moves it, or does both. Gives its node before and after; nothing where there is none.
     pub fn rename(&mut self, random: &mut Random) -> Option<[Node; 2]> {
-        let depth = random.between(1, DEPTHS.len()).min(self.folders.len() - 1);
-        let folder = random.one_in(FOLDER) && depth > 0 && !self.folders[depth].is_empty();
-        let at = match folder {
-            true => random.pick(&self.folders[depth]),
-            false => self.file(random)?,
+        let folder = if random.one_in(FOLDER) {
+            self.any_folder(random)
+        } else {
+            None
         };
+        let at = folder.or_else(|| self.file(random))?;
         let old = self.nodes[at];
         let mut new = old;
         let kind = random.below(4);
@@ -146,6 +146,13 @@ impl Tree {
 
     fn file(&self, random: &mut Random) -> Option<usize> {
         (!self.files.is_empty()).then(|| random.pick(&self.files))
+    }
+
+    /// A folder of any depth; nothing where that is the root's, or has none.
+    fn any_folder(&self, random: &mut Random) -> Option<usize> {
+        let depth = random.below(self.folders.len());
+        let folders = &self.folders[depth];
+        (depth > 0 && !folders.is_empty()).then(|| random.pick(folders))
     }
 
     /// A folder to put something into.
