@@ -2,17 +2,16 @@
 
 use crate::grid::{shown, Grid};
 use std::iter;
-use std::time::Duration;
 
 pub struct Curve<'a> {
     sizes: &'a [usize],
     lines: Vec<Line>,
 }
 
-/// The times of ours and of the Rust's for one thing, a size after another.
+/// The times of ours and of the Rust's for one thing in nanoseconds, a size after another.
 struct Line {
     what: &'static str,
-    times: [Vec<Option<Duration>>; 2],
+    times: [Vec<Option<f64>>; 2],
 }
 
 impl<'a> Curve<'a> {
@@ -23,8 +22,8 @@ impl<'a> Curve<'a> {
         }
     }
 
-    /// Adds the times for each record at the next size.
-    pub fn add(&mut self, what: &'static str, times: [Option<Duration>; 2]) {
+    /// Adds the nanoseconds for each record at the next size.
+    pub fn add(&mut self, what: &'static str, times: [Option<f64>; 2]) {
         let at = self.lines.iter().position(|line| line.what == what);
         let at = at.unwrap_or_else(|| {
             let times = [Vec::new(), Vec::new()];
@@ -44,9 +43,7 @@ impl<'a> Curve<'a> {
         for line in &self.lines {
             for (side, times) in ["ours", "the Rust's"].iter().zip(&line.times) {
                 let what = format!("{}, {side}", line.what);
-                let times = times
-                    .iter()
-                    .map(|time| shown(time.map(|time| time.as_nanos() as f64), 0));
+                let times = times.iter().map(|&time| shown(time, 0));
                 grid.add(iter::once(what).chain(times).collect());
             }
         }

@@ -12,6 +12,7 @@ use crate::sum::Sum;
 use crate::table::{Call, Table, Task, Unit};
 use curve::Curve;
 use history::History;
+use std::time::Duration;
 
 /// A way of ours to seed or rewind, and the Rust's beside it.
 struct Way {
@@ -82,7 +83,8 @@ pub fn measure(options: &Options) -> Result<(), String> {
             let rust = || (way.rust)(&history);
             let what = format!("{}, {size} {things}", way.what);
             let times = table.add(&what, &task, ours, Some(&rust))?;
-            curve.add(way.what, times.map(|time| time.map(|time| time / size as u32)));
+            let nanoseconds = |time: Duration| time.as_nanos() as f64 / size as f64;
+            curve.add(way.what, times.map(|time| time.map(nanoseconds)));
         }
     }
     table.print();
