@@ -116,7 +116,7 @@ impl Table {
                 row.what.clone(),
                 shown(rates[0], 0),
                 shown(rates[1], 0),
-                shown(ratio, 2),
+                shown(ratio, if ratio < Some(0.1) { 4 } else { 2 }),
                 shown(peaks[0], 1),
                 shown(peaks[1], 1),
             ]);
