@@ -42,7 +42,11 @@ extern "C" {
 
 extern "C" fn callback(data: *const u8, size: usize) -> c_int {
     // SAFETY: libFuzzer lends the bytes for the call; it may hand over no pointer with a size of 0.
-    let data = if size == 0 { &[] } else { unsafe { slice::from_raw_parts(data, size) } };
+    let data = if size == 0 {
+        &[]
+    } else {
+        unsafe { slice::from_raw_parts(data, size) }
+    };
     if let Err(difference) = compare(data) {
         println!("{difference}");
         abort();
@@ -55,7 +59,9 @@ fn compare(data: &[u8]) -> Outcome {
     let Some((&subject, rest)) = data.split_first() else {
         return Ok(());
     };
-    let sum = rest.iter().fold(0, |sum: u64, &byte| sum.rotate_left(5) ^ u64::from(byte));
+    let sum = rest
+        .iter()
+        .fold(0, |sum: u64, &byte| sum.rotate_left(5) ^ u64::from(byte));
     let mut random = Random::of_case(sum, STREAM, rest.len() as u64);
     SUBJECTS[usize::from(subject) % SUBJECTS.len()](rest, &mut random)
 }
@@ -63,7 +69,9 @@ fn compare(data: &[u8]) -> Outcome {
 /// Hands the command line to libFuzzer, which runs until it is told to stop or the first difference.
 pub fn run() -> ExitCode {
     let driver = thread::Builder::new().stack_size(STACK).spawn(|| {
-        let words: Vec<CString> = env::args().map(|word| CString::new(word).expect("no zero byte")).collect();
+        let words: Vec<CString> = env::args()
+            .map(|word| CString::new(word).expect("no zero byte"))
+            .collect();
         let mut pointers: Vec<*mut c_char> = words.iter().map(|word| word.as_ptr().cast_mut()).collect();
         let mut count = pointers.len() as c_int;
         pointers.push(ptr::null_mut());
@@ -71,6 +79,9 @@ pub fn run() -> ExitCode {
         // SAFETY: the words and the pointers to them, with a null pointer at the end, live until the driver is done.
         unsafe { LLVMFuzzerRunDriver(&mut count, &mut first, callback) }
     });
-    let status = driver.expect("there is room for a stack").join().expect("the driver does not panic");
+    let status = driver
+        .expect("there is room for a stack")
+        .join()
+        .expect("the driver does not panic");
     ExitCode::from(u8::try_from(status).unwrap_or(1))
 }
