@@ -31,19 +31,37 @@ pub fn generated(seed: u64, size: usize) -> Vec<u8> {
     bytes
 }
 
-/// An entry with standard information, a name for Windows and DOS or one for each, and data in it or in clusters.
+/// What an entry says of its file, beside the name. The parent is a reference, with the sequence in its upper 16 bits.
+pub struct File {
+    pub number: u64,
+    pub sequence: u64,
+    pub flags: u64,
+    pub parent: u64,
+}
+
+/// An entry of any file.
 fn entry(random: &mut Random, number: usize) -> Entry {
+    let file = File {
+        number: number as u64,
+        sequence: random.between(1, 9) as u64,
+        flags: random.below(4) as u64,
+        parent: random.below(1 << 22) as u64 | (random.between(1, 9) as u64) << 48,
+    };
+    entry_of(random, &file, name)
+}
+
+/// An entry with standard information, a name for Windows and DOS or one for each, and data in it or in clusters.
+pub fn entry_of(random: &mut Random, file: &File, mut name: impl FnMut(&mut Random) -> Vec<u16>) -> Entry {
     let mut entry = Entry::new(FIRST, 0);
-    entry.put(SEQUENCE, 2, random.between(1, 9) as u64);
-    entry.put(FLAGS, 2, random.below(4) as u64);
-    entry.put(NUMBER, 4, number as u64);
+    entry.put(SEQUENCE, 2, file.sequence);
+    entry.put(FLAGS, 2, file.flags);
+    entry.put(NUMBER, 4, file.number);
     let (kind, length) = STANDARD_INFORMATION;
     entry.attribute(kind, length);
-    let parent = random.below(1 << 22) as u64 | (random.between(1, 9) as u64) << 48;
     let namespaces: &[u8] = if random.one_in(2) { &[3] } else { &[2, 1] };
     for &namespace in namespaces {
         entry.name(&Name {
-            parent,
+            parent: file.parent,
             namespace,
             units: if namespace == 2 {
                 Name::of(12, 2).units

@@ -4,13 +4,20 @@
 //! The original's files, the stand-ins for what they lack and the declarations of our library are those of the
 //! differential test.
 
+mod allocation;
+mod cost;
+mod grid;
 mod image;
 mod journal;
 mod names;
+mod options;
 mod ours;
+mod rewinds;
 mod rust;
 mod sharing;
+mod sum;
 mod table;
+mod texts;
 
 #[allow(dead_code)] // the differential test uses more of these files
 #[path = "../../tests/differential/src/error.rs"]
@@ -24,20 +31,33 @@ mod library;
 #[allow(dead_code)]
 #[path = "../../tests/differential/src/random.rs"]
 mod random;
+#[allow(dead_code)]
+#[path = "../../tests/differential/src/records/layout.rs"]
+mod record_layout;
+#[allow(dead_code)]
+#[path = "../../tests/differential/src/rewinds/library.rs"]
+mod rewind_library;
 #[path = "../../tests/differential/src/usn/mod.rs"]
 mod usn;
 
+/// The declarations on tables and paths, where those on rewinds look for them.
+#[path = "../../tests/differential/src/paths"]
+mod paths {
+    #[allow(dead_code)]
+    pub mod library;
+}
+
 include!(concat!(env!("OUT_DIR"), "/original.rs"));
 
+use cost::Cost;
 use names::Names;
+use options::{Options, Subject, USAGE};
 use ours::{ImageRoom, Room, CARVER, SCAN};
 use sharing::Schedule;
 use std::process::ExitCode;
 use std::thread;
-use std::time::{Duration, Instant};
-use table::Table;
-
-const USAGE: &str = "usage: bench [--seed N] [--mebibytes N] [--longest-name UNITS] [--image-mebibytes N]";
+use sum::Sum;
+use table::{Table, Task, Unit};
 
 /// How many names are decoded.
 const NAMES: usize = 1_000_000;
@@ -45,55 +65,8 @@ const NAMES: usize = 1_000_000;
 /// The Rust's reader calls itself for words that are no record, so that it may take a large stack.
 const STACK: usize = 1 << 30;
 
-/// What a call gave, to be equal for both: how many records, entries or names, and a sum over some fields of each, in
-/// their order.
-#[derive(Debug, Clone, Copy, PartialEq, Eq, Default)]
-pub struct Sum {
-    pub records: u64,
-    pub fields: u64,
-}
-
-impl Sum {
-    /// Adds a record's entry, USN, seconds and reason.
-    pub fn add(&mut self, fields: [u64; 4]) {
-        self.add_all(fields);
-    }
-
-    /// Adds an entry's number, sequence and parent, and its name's text.
-    pub fn add_entry(&mut self, fields: [u64; 3], text: &[u8]) {
-        self.add_all(fields.into_iter().chain(text.iter().map(|&byte| byte.into())));
-    }
-
-    /// Adds a name's text.
-    pub fn add_text(&mut self, text: &[u8]) {
-        self.add_all(text.iter().map(|&byte| byte.into()));
-    }
-
-    fn add_all(&mut self, fields: impl IntoIterator<Item = u64>) {
-        self.records += 1;
-        for field in fields {
-            self.fields = self.fields.rotate_left(1).wrapping_add(field);
-        }
-    }
-}
-
-/// How long a call takes, and what it gives.
-pub fn clock<T>(call: impl FnOnce() -> T) -> (Duration, T) {
-    let start = Instant::now();
-    let given = call();
-    (start.elapsed(), given)
-}
-
-/// What a run is made from.
-struct Options {
-    seed: u64,
-    mebibytes: usize,
-    longest_name: usize,
-    image_mebibytes: usize,
-}
-
 fn main() -> ExitCode {
-    let Some(options) = command(std::env::args().skip(1)) else {
+    let Some(options) = Options::of(std::env::args().skip(1)) else {
         eprintln!("{USAGE}");
         return ExitCode::from(2);
     };
@@ -110,52 +83,43 @@ fn main() -> ExitCode {
     }
 }
 
-/// The options; nothing where the command line is not understood.
-fn command(mut words: impl Iterator<Item = String>) -> Option<Options> {
-    let mut options = Options {
-        seed: 1,
-        mebibytes: 256,
-        longest_name: 40,
-        image_mebibytes: 64,
-    };
-    let size = |value: String| value.parse().ok().filter(|size| (1..=1024).contains(size));
-    while let Some(word) = words.next() {
-        let value = words.next()?;
-        match word.as_str() {
-            "--seed" => options.seed = value.parse().ok()?,
-            "--mebibytes" => options.mebibytes = size(value)?,
-            "--longest-name" => options.longest_name = value.parse().ok().filter(|units| (1..=255).contains(units))?,
-            "--image-mebibytes" => options.image_mebibytes = size(value)?,
-            _ => return None,
-        }
-    }
-    Some(options)
-}
-
-/// Times the readers on a journal, the carver on an image, and the decoder on names, and prints a table of each.
+/// Times the readers on a journal, the carver on an image, the decoder on names, and seeding and rewinding on histories, and prints
+/// a table of each.
 fn measure(options: &Options) -> Result<(), String> {
     let before = Schedule::now();
-    let seed = options.seed;
-    let longest_name = options.longest_name;
-    let journal = journal::generated(seed, options.mebibytes << 20, longest_name);
-    println!(
-        "journal: {} bytes, seed {seed}, longest name {longest_name}",
-        journal.len()
-    );
-    measure_journal(&journal)?;
-    drop(journal);
-    let image = image::generated(seed, options.image_mebibytes << 20);
-    println!("image: {} bytes, seed {seed}", image.len());
-    measure_image(&image)?;
-    let names = names::generated(seed, NAMES);
-    println!("names: {} bytes, seed {seed}", names.bytes.len());
-    measure_names(&names)?;
+    if options.has(Subject::Journal) {
+        measure_journal(options)?;
+    }
+    if options.has(Subject::Image) {
+        measure_image(options)?;
+    }
+    if options.has(Subject::Names) {
+        measure_names(options.seed)?;
+    }
+    if options.has(Subject::Rewinds) {
+        rewinds::measure(options)?;
+    }
     Schedule::print_since(before);
     Ok(())
 }
 
+/// The task of reading these bytes, which are lent to both, for a result.
+fn reading(bytes: &[u8], expected: Sum) -> Task {
+    Task {
+        size: bytes.len(),
+        expected,
+        lent: [bytes.len(); 2],
+    }
+}
+
 /// Times every reader and prints the table. Every timing must give what the Rust's scan gives.
-fn measure_journal(journal: &[u8]) -> Result<(), String> {
+fn measure_journal(options: &Options) -> Result<(), String> {
+    let (seed, longest_name) = (options.seed, options.longest_name);
+    let journal = &journal::generated(seed, options.mebibytes << 20, longest_name)[..];
+    println!(
+        "journal: {} bytes, seed {seed}, longest name {longest_name}",
+        journal.len()
+    );
     let (_, expected) = rust::scan(journal);
     let zeros = journal::zero_words(journal);
     println!(
@@ -165,76 +129,80 @@ fn measure_journal(journal: &[u8]) -> Result<(), String> {
     );
     let room = Room {
         journal: journal.len(),
-        records: expected.records as usize,
+        records: expected.records,
     };
-    let mut table = Table::new(journal.len(), expected);
+    let task = reading(journal, expected);
+    let mut table = Table::new(Unit::Bytes);
     for (name, lister, rust) in [
-        ("scan", SCAN, rust::scan as fn(&[u8]) -> (Duration, Sum)),
+        ("scan", SCAN, rust::scan as fn(&[u8]) -> (Cost, Sum)),
         ("carver", CARVER, rust::carve),
     ] {
-        let list = || lister.list(journal, room.cleared());
-        let just_full = || lister.list(journal, room.just_full().cleared());
+        let rust = || rust(journal);
         let fields = || lister.list_and_fields(journal, room.cleared());
         let uncleared = || lister.list_and_fields(journal, room.fresh());
-        table.add(&format!("{name}, list and fields"), fields, Some(|| rust(journal)))?;
+        let list = || lister.list(journal, room.list_only().cleared());
+        let just_full = || lister.list(journal, room.just_full().list_only().cleared());
+        let what = |rest: &str| format!("{name}, {rest}");
+        table.add(&what("list and fields"), &task, Some(&fields), Some(&rust))?;
         table.add(
-            &format!("{name}, list and fields, uncleared"),
-            uncleared,
-            Some(|| rust(journal)),
+            &what("list and fields, uncleared"),
+            &task,
+            Some(&uncleared),
+            Some(&rust),
         )?;
-        table.alone(&format!("{name}, list only"), list)?;
-        table.alone(&format!("{name}, list only, just full"), just_full)?;
+        table.add(&what("list only"), &task, Some(&list), None)?;
+        table.add(&what("list only, just full"), &task, Some(&just_full), None)?;
     }
+    // The window's source is read by a buffer at a time, and is lent to neither.
+    let task = Task { lent: [0; 2], ..task };
     for (what, delivery) in [("all that is wanted", usize::MAX), ("4096 bytes at a time", 4096)] {
-        let window = || ours::window(journal, delivery);
-        table.add(
-            &format!("window, {what}"),
-            window,
-            Some(|| rust::window(journal, delivery)),
-        )?;
+        let ours = || ours::window(journal, delivery);
+        let rust = || rust::window(journal, delivery);
+        table.add(&format!("window, {what}"), &task, Some(&ours), Some(&rust))?;
     }
     table.print();
     Ok(())
 }
 
 /// Times the carver of MFT entries and prints the table. Every timing must give what the Rust gives.
-fn measure_image(image: &[u8]) -> Result<(), String> {
+fn measure_image(options: &Options) -> Result<(), String> {
+    let image = &image::generated(options.seed, options.image_mebibytes << 20)[..];
+    println!("image: {} bytes, seed {}", image.len(), options.seed);
     let (_, expected) = rust::image(image);
     println!("{} entries are carved", expected.records);
     let room = ImageRoom {
         image: image.len(),
-        entries: expected.records as usize,
+        entries: expected.records,
     };
-    let mut table = Table::new(image.len(), expected);
+    let task = reading(image, expected);
+    let mut table = Table::new(Unit::Bytes);
+    let rust = || rust::image(image);
     let text = || ours::image_list_and_text(image, room.cleared());
     let uncleared = || ours::image_list_and_text(image, room.fresh());
-    let list = || ours::image_list(image, room.cleared());
-    let just_full = || ours::image_list(image, room.just_full().cleared());
-    table.add("image, list and text", text, Some(|| rust::image(image)))?;
-    table.add(
-        "image, list and text, uncleared",
-        uncleared,
-        Some(|| rust::image(image)),
-    )?;
-    table.alone("image, list only", list)?;
-    table.alone("image, list only, just full", just_full)?;
+    let list = || ours::image_list(image, room.list_only().cleared());
+    let just_full = || ours::image_list(image, room.just_full().list_only().cleared());
+    table.add("image, list and text", &task, Some(&text), Some(&rust))?;
+    table.add("image, list and text, uncleared", &task, Some(&uncleared), Some(&rust))?;
+    table.add("image, list only", &task, Some(&list), None)?;
+    table.add("image, list only, just full", &task, Some(&just_full), None)?;
     table.print();
     Ok(())
 }
 
 /// Times the decoder and prints the table. Every timing must give what the Rust gives.
-fn measure_names(names: &Names) -> Result<(), String> {
+fn measure_names(seed: u64) -> Result<(), String> {
+    let names: &Names = &names::generated(seed, NAMES);
+    println!("names: {} bytes, seed {seed}", names.bytes.len());
     let (_, expected) = rust::names(names);
     println!("{} names", expected.records);
-    let mut table = Table::new(names.bytes.len(), expected);
-    let kept = || ours::names(names);
-    let one_by_one = || ours::names_one_by_one(names);
-    table.add("names, all texts kept", kept, Some(|| rust::names(names)))?;
-    table.add(
-        "names, one text at a time",
-        one_by_one,
-        Some(|| rust::names_one_by_one(names)),
-    )?;
+    let task = reading(&names.bytes, expected);
+    let mut table = Table::new(Unit::Bytes);
+    let ours = || ours::names(names);
+    let rust = || rust::names(names);
+    table.add("names, all texts kept", &task, Some(&ours), Some(&rust))?;
+    let ours = || ours::names_one_by_one(names);
+    let rust = || rust::names_one_by_one(names);
+    table.add("names, one text at a time", &task, Some(&ours), Some(&rust))?;
     table.print();
     Ok(())
 }

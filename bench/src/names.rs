@@ -30,9 +30,20 @@ pub fn generated(seed: u64, count: usize) -> Names {
     names
 }
 
-/// The units of a name: of ten names one has every fourth letter from outside of ASCII, and one is of ideographs.
+/// The units of a name, every number of them as frequent as any other.
 pub fn name(random: &mut Random) -> Vec<u16> {
     let units = random.between(UNITS[0], UNITS[1]);
+    name_of(random, units)
+}
+
+/// The units of a name, where short ones are more frequent than long ones: the lower of two numbers.
+pub fn short_name(random: &mut Random) -> Vec<u16> {
+    let [one, other] = [0; 2].map(|_| random.between(UNITS[0], UNITS[1]));
+    name_of(random, one.min(other))
+}
+
+/// So many units: of ten names one has every fourth letter from outside of ASCII, and one is of ideographs.
+fn name_of(random: &mut Random, units: usize) -> Vec<u16> {
     let kind = random.below(10);
     let mut unit = |at: usize| match kind {
         0 if at.is_multiple_of(4) => random.between(0xc0, 0x17f) as u16,

@@ -1,14 +1,14 @@
 //! Our calls, timed.
 
+use crate::cost::{clock, Cost};
 use crate::layout::ENTRY;
 use crate::library::{
     self, ACCEPTED, ANSWER_WORDS, BUF_SIZE, END, ENTRY_NAME, ENTRY_WORDS, READER_WORDS, RECORD, WANTS, WORDS,
 };
 use crate::names::{Names, LONGEST_TEXT};
-use crate::{clock, Sum};
+use crate::sum::Sum;
+use crate::texts::Texts;
 use std::hint::black_box;
-use std::iter;
-use std::time::Duration;
 
 /// A reader that lists the places of records.
 #[derive(Clone, Copy)]
@@ -50,6 +50,11 @@ impl Room {
         }
     }
 
+    /// The same without the words of the records, for the list alone.
+    pub fn list_only(self) -> Self {
+        Self { records: 0, ..self }
+    }
+
     /// Memory that the system has not given pages to.
     pub fn fresh(self) -> Memory {
         Memory {
@@ -69,20 +74,21 @@ impl Room {
 
 impl Lister {
     /// The list alone is timed.
-    pub fn list(self, journal: &[u8], mut memory: Memory) -> (Duration, Sum) {
-        let (time, records) = clock(|| self.listed(journal, &mut memory));
+    pub fn list(self, journal: &[u8], mut memory: Memory) -> (Cost, Sum) {
+        let (cost, records) = clock(|| self.listed(journal, &mut memory));
+        memory.fields.resize(WORDS * records, 0);
         fields(journal, &mut memory, records);
-        (time, memory.sum(records))
+        (cost, memory.sum(records))
     }
 
     /// The list and the words of each listed record are timed.
-    pub fn list_and_fields(self, journal: &[u8], mut memory: Memory) -> (Duration, Sum) {
-        let (time, records) = clock(|| {
+    pub fn list_and_fields(self, journal: &[u8], mut memory: Memory) -> (Cost, Sum) {
+        let (cost, records) = clock(|| {
             let records = self.listed(journal, &mut memory);
             fields(journal, &mut memory, records);
             records
         });
-        (time, memory.sum(records))
+        (cost, memory.sum(records))
     }
 
     /// Lists the places of the records; gives how many there are.
@@ -119,7 +125,7 @@ fn add(sum: &mut Sum, words: &[u64]) {
 }
 
 /// The window over the journal, given at most so many bytes at a time.
-pub fn window(journal: &[u8], delivery: usize) -> (Duration, Sum) {
+pub fn window(journal: &[u8], delivery: usize) -> (Cost, Sum) {
     let mut buffer = black_box(vec![0; BUF_SIZE]);
     buffer.fill(0);
     clock(|| {
@@ -171,11 +177,16 @@ impl ImageRoom {
         }
     }
 
+    /// The same without the texts, for the list alone.
+    pub fn list_only(self) -> Self {
+        Self { entries: 0, ..self }
+    }
+
     /// Memory that the system has not given pages to.
     pub fn fresh(self) -> ImageMemory {
         ImageMemory {
             list: vec![0; ENTRY_WORDS * (self.image / ENTRY)],
-            texts: Texts::fresh(self.entries),
+            texts: name_texts(self.entries),
         }
     }
 
@@ -189,20 +200,21 @@ impl ImageRoom {
 }
 
 /// The list alone is timed.
-pub fn image_list(image: &[u8], mut memory: ImageMemory) -> (Duration, Sum) {
-    let (time, entries) = clock(|| carved(image, &mut memory));
+pub fn image_list(image: &[u8], mut memory: ImageMemory) -> (Cost, Sum) {
+    let (cost, entries) = clock(|| carved(image, &mut memory));
+    memory.texts = name_texts(entries);
     entry_texts(image, &mut memory, entries);
-    (time, memory.sum(entries))
+    (cost, memory.sum(entries))
 }
 
 /// The list and the text of each name are timed.
-pub fn image_list_and_text(image: &[u8], mut memory: ImageMemory) -> (Duration, Sum) {
-    let (time, entries) = clock(|| {
+pub fn image_list_and_text(image: &[u8], mut memory: ImageMemory) -> (Cost, Sum) {
+    let (cost, entries) = clock(|| {
         let entries = carved(image, &mut memory);
         entry_texts(image, &mut memory, entries);
         entries
     });
-    (time, memory.sum(entries))
+    (cost, memory.sum(entries))
 }
 
 /// Lists the entries of an image; gives how many there are.
@@ -216,10 +228,11 @@ fn carved(image: &[u8], memory: &mut ImageMemory) -> usize {
 /// Writes the text of each listed entry's name.
 fn entry_texts(image: &[u8], memory: &mut ImageMemory, entries: usize) {
     let places = memory.list.chunks_exact(ENTRY_WORDS).take(entries);
-    memory.texts.write(places.map(|words| {
+    let names = places.map(|words| {
         let [offset, length] = [words[ENTRY_NAME], words[ENTRY_NAME + 1]].map(|word| word as usize);
         &image[offset..offset + length]
-    }));
+    });
+    memory.texts.write(names, decoded);
 }
 
 impl ImageMemory {
@@ -233,39 +246,9 @@ impl ImageMemory {
     }
 }
 
-/// The texts of names one after another, and where each of them ends.
-struct Texts {
-    text: Vec<u8>,
-    ends: Vec<usize>,
-}
-
-impl Texts {
-    /// Room for the texts of so many names, in memory that the system has not given pages to.
-    fn fresh(names: usize) -> Self {
-        Self {
-            text: vec![0; LONGEST_TEXT * names],
-            ends: vec![0; names],
-        }
-    }
-
-    fn clear(&mut self) {
-        self.text.fill(0);
-        self.ends.fill(0);
-    }
-
-    /// Writes the text of each name.
-    fn write<'a>(&mut self, names: impl Iterator<Item = &'a [u8]>) {
-        let mut at = 0;
-        for (name, end) in names.zip(&mut self.ends) {
-            at += decoded(name, &mut self.text[at..]);
-            *end = at;
-        }
-    }
-
-    fn iter(&self) -> impl Iterator<Item = &[u8]> {
-        let starts = iter::once(0).chain(self.ends.iter().copied());
-        starts.zip(&self.ends).map(|(start, &end)| &self.text[start..end])
-    }
+/// Room for the texts of so many names, in memory that the system has not given pages to.
+fn name_texts(names: usize) -> Texts {
+    Texts::fresh(names, LONGEST_TEXT * names)
 }
 
 /// Writes the text of a name; gives its length.
@@ -277,17 +260,17 @@ fn decoded(name: &[u8], text: &mut [u8]) -> usize {
 }
 
 /// The texts of all names are kept.
-pub fn names(names: &Names) -> (Duration, Sum) {
-    let mut texts = black_box(Texts::fresh(names.ends.len()));
+pub fn names(names: &Names) -> (Cost, Sum) {
+    let mut texts = black_box(name_texts(names.ends.len()));
     texts.clear();
-    let (time, ()) = clock(|| texts.write(names.iter()));
+    let (cost, ()) = clock(|| texts.write(names.iter(), decoded));
     let mut sum = Sum::default();
     texts.iter().for_each(|text| sum.add_text(text));
-    (time, sum)
+    (cost, sum)
 }
 
 /// Each text takes the place of the one before it.
-pub fn names_one_by_one(names: &Names) -> (Duration, Sum) {
+pub fn names_one_by_one(names: &Names) -> (Cost, Sum) {
     let mut text = [0; LONGEST_TEXT];
     clock(|| {
         let mut sum = Sum::default();

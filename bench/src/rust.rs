@@ -1,27 +1,27 @@
 //! The Rust's calls, timed, each as it is. What it gives is dropped outside the time.
 
 use crate::carve::carve_mft_entries;
+use crate::cost::{clock, Cost};
 use crate::names::Names;
+use crate::sum::Sum;
 use crate::usn::carver::carve_usn_records;
 use crate::usn::reader::UsnJournalReader;
 use crate::usn::record::parse_usn_journal;
 use crate::usn::UsnRecord;
-use crate::{clock, Sum};
 use std::io::{Cursor, Read, Result, Seek, SeekFrom};
-use std::time::Duration;
 
-pub fn scan(journal: &[u8]) -> (Duration, Sum) {
-    let (time, records) = clock(|| parse_usn_journal(journal));
-    (time, sum(&records.expect("the scan has no error")))
+pub fn scan(journal: &[u8]) -> (Cost, Sum) {
+    let (cost, records) = clock(|| parse_usn_journal(journal));
+    (cost, sum(&records.expect("the scan has no error")))
 }
 
-pub fn carve(journal: &[u8]) -> (Duration, Sum) {
-    let (time, (carved, _)) = clock(|| carve_usn_records(journal));
-    (time, sum(carved.iter().map(|found| &found.record)))
+pub fn carve(journal: &[u8]) -> (Cost, Sum) {
+    let (cost, (carved, _)) = clock(|| carve_usn_records(journal));
+    (cost, sum(carved.iter().map(|found| &found.record)))
 }
 
 /// The window over a source that delivers at most so many bytes by a read.
-pub fn window(journal: &[u8], delivery: usize) -> (Duration, Sum) {
+pub fn window(journal: &[u8], delivery: usize) -> (Cost, Sum) {
     let source = Source {
         bytes: Cursor::new(journal),
         delivery,
@@ -72,26 +72,26 @@ fn add(sum: &mut Sum, record: &UsnRecord) {
     ]);
 }
 
-pub fn image(image: &[u8]) -> (Duration, Sum) {
-    let (time, (entries, _)) = clock(|| carve_mft_entries(image));
+pub fn image(image: &[u8]) -> (Cost, Sum) {
+    let (cost, (entries, _)) = clock(|| carve_mft_entries(image));
     let mut sum = Sum::default();
     for entry in &entries {
         let fields = [entry.entry_number, entry.sequence_number.into(), entry.parent_entry];
         sum.add_entry(fields, entry.filename.as_bytes());
     }
-    (time, sum)
+    (cost, sum)
 }
 
 /// The texts of all names are kept.
-pub fn names(names: &Names) -> (Duration, Sum) {
-    let (time, texts) = clock(|| names.iter().map(decoded).collect::<Vec<String>>());
+pub fn names(names: &Names) -> (Cost, Sum) {
+    let (cost, texts) = clock(|| names.iter().map(decoded).collect::<Vec<String>>());
     let mut sum = Sum::default();
     texts.iter().for_each(|text| sum.add_text(text.as_bytes()));
-    (time, sum)
+    (cost, sum)
 }
 
 /// Each text is dropped before the next one is made.
-pub fn names_one_by_one(names: &Names) -> (Duration, Sum) {
+pub fn names_one_by_one(names: &Names) -> (Cost, Sum) {
     clock(|| {
         let mut sum = Sum::default();
         names.iter().for_each(|name| sum.add_text(decoded(name).as_bytes()));

@@ -1,91 +1,145 @@
-//! The table of rates: the best of three timings each, ours and the Rust's in turn.
+//! The table of rates: ours and the Rust's in turn, each call made once with its memory counted, and then timed.
 
-use crate::Sum;
+use crate::allocation;
+use crate::cost::Cost;
+use crate::grid::{shown, Grid};
+use crate::sum::Sum;
 use std::time::Duration;
 
 const REPETITIONS: usize = 3;
 
+/// A call that takes longer is not repeated: its time is that with the counting.
+const LONG: Duration = Duration::from_secs(60);
+
+/// A call with all that is made ready for it: what it cost, and what it gave.
+pub type Call<'a> = &'a dyn Fn() -> (Cost, Sum);
+
+/// What a rate counts.
+#[derive(Debug, Clone, Copy, PartialEq, Eq)]
+pub enum Unit {
+    Bytes,
+    Records,
+}
+
+/// What the calls of a row have to do.
+#[derive(Debug, Clone, Copy)]
+pub struct Task {
+    /// How many bytes or records are gone through.
+    pub size: usize,
+    /// What must be given.
+    pub expected: Sum,
+    /// The bytes that are lent for reading, to ours and to the Rust's, beside what the calls make ready for themselves.
+    pub lent: [usize; 2],
+}
+
 pub struct Table {
-    bytes: usize,
-    expected: Sum,
+    unit: Unit,
     rows: Vec<Row>,
 }
 
-/// What is timed, and the best times.
+/// What is timed, and the cost of ours and of the Rust's, with what is lent for reading counted in.
 struct Row {
     what: String,
-    ours: Duration,
-    rust: Option<Duration>,
+    size: usize,
+    costs: [Option<Cost>; 2],
 }
 
 impl Table {
-    /// A table of calls that read so many bytes, all for this result.
-    pub fn new(bytes: usize, expected: Sum) -> Self {
-        Self {
-            bytes,
-            expected,
-            rows: Vec::new(),
-        }
+    pub fn new(unit: Unit) -> Self {
+        Self { unit, rows: Vec::new() }
     }
 
-    /// Times ours and the Rust's, if it has one, in turn.
+    /// Measures ours and the Rust's in turn, where there is such a call; gives their times.
     pub fn add(
         &mut self,
         what: &str,
-        ours: impl Fn() -> (Duration, Sum),
-        rust: Option<impl Fn() -> (Duration, Sum)>,
-    ) -> Result<(), String> {
-        let mut row = Row {
-            what: what.to_string(),
-            ours: Duration::MAX,
-            rust: rust.as_ref().map(|_| Duration::MAX),
-        };
+        task: &Task,
+        ours: Option<Call>,
+        rust: Option<Call>,
+    ) -> Result<[Option<Duration>; 2], String> {
+        let calls = [ours, rust];
+        let mut costs = [None; 2];
+        for (side, call) in calls.into_iter().enumerate() {
+            let Some(call) = call else { continue };
+            allocation::begin();
+            let counted = task.done(what, call);
+            allocation::end();
+            let mut cost = counted?;
+            cost.memory += task.lent[side];
+            costs[side] = Some(cost);
+        }
+        let repeated = costs.map(|cost| cost.is_some_and(|cost| cost.time <= LONG));
+        let mut best = [Duration::MAX; 2];
         for _ in 0..REPETITIONS {
-            row.ours = row.ours.min(self.time(what, &ours)?);
-            if let (Some(rust), Some(best)) = (&rust, &mut row.rust) {
-                *best = (*best).min(self.time(what, rust)?);
+            for side in (0..2).filter(|&side| repeated[side]) {
+                let call = calls[side].expect("what is repeated has a cost");
+                best[side] = best[side].min(task.done(what, call)?.time);
             }
         }
-        self.rows.push(row);
-        Ok(())
-    }
-
-    /// Times ours, where the Rust has no such call.
-    pub fn alone(&mut self, what: &str, ours: impl Fn() -> (Duration, Sum)) -> Result<(), String> {
-        self.add(what, ours, None::<fn() -> (Duration, Sum)>)
-    }
-
-    fn time(&self, what: &str, call: impl Fn() -> (Duration, Sum)) -> Result<Duration, String> {
-        let (time, given) = call();
-        match given == self.expected {
-            true => Ok(time),
-            false => Err(format!("{what}: {given:?}, not {:?}", self.expected)),
+        for side in (0..2).filter(|&side| repeated[side]) {
+            costs[side].as_mut().expect("what is repeated has a cost").time = best[side];
         }
+        self.rows.push(Row {
+            what: what.to_string(),
+            size: task.size,
+            costs,
+        });
+        Ok(costs.map(|cost| cost.map(|cost| cost.time)))
     }
 
     pub fn print(&self) {
-        println!("Best of {REPETITIONS}; MB is 1000000 bytes.");
         println!(
-            "Our list, fields, text and buffer are cleared before the time begins, unless the row says uncleared;"
+            "Best of {REPETITIONS}, or once what takes more than {} s; MB is 1000000 bytes.",
+            LONG.as_secs()
         );
-        println!(
-            "the Rust takes its memory within the time. Its names are text; ours are places, unless the row says text."
-        );
+        println!("What we are lent to write is cleared before the time begins, unless the row says uncleared; the Rust takes its");
+        println!("memory within the time. Its names are text; ours are places, unless the row says text or paths.");
+        println!("Peak: the most bytes allocated at once during the call, with what is lent to it and what it gives.");
         println!();
-        println!("| {:<34} | ours MB/s | the Rust's MB/s | ratio |", "what");
-        println!("|{:-<36}|----------:|----------------:|------:|", "");
+        let unit = match self.unit {
+            Unit::Bytes => "MB/s",
+            Unit::Records => "records/s",
+        };
+        let mut grid = Grid::new(vec![
+            "what".to_string(),
+            format!("ours {unit}"),
+            format!("the Rust's {unit}"),
+            "ratio".to_string(),
+            "our peak MB".to_string(),
+            "the Rust's peak MB".to_string(),
+        ]);
         for row in &self.rows {
-            let ours = self.rate(row.ours);
-            let (rust, ratio) = match row.rust.map(|time| self.rate(time)) {
-                Some(rust) => (format!("{rust:.0}"), format!("{:.2}", ours / rust)),
-                None => ("-".to_string(), "-".to_string()),
-            };
-            println!("| {:<34} | {ours:>9.0} | {rust:>15} | {ratio:>5} |", row.what);
+            let rates = row.costs.map(|cost| cost.map(|cost| self.rate(row.size, cost.time)));
+            let ratio = rates[0].zip(rates[1]).map(|(ours, rust)| ours / rust);
+            let peaks = row.costs.map(|cost| cost.map(|cost| cost.memory as f64 / 1e6));
+            grid.add(vec![
+                row.what.clone(),
+                shown(rates[0], 0),
+                shown(rates[1], 0),
+                shown(ratio, if ratio < Some(0.1) { 4 } else { 2 }),
+                shown(peaks[0], 1),
+                shown(peaks[1], 1),
+            ]);
         }
-        println!();
+        grid.print();
     }
 
-    fn rate(&self, time: Duration) -> f64 {
-        self.bytes as f64 / 1e6 / time.as_secs_f64()
+    fn rate(&self, size: usize, time: Duration) -> f64 {
+        let rate = size as f64 / time.as_secs_f64();
+        match self.unit {
+            Unit::Bytes => rate / 1e6,
+            Unit::Records => rate,
+        }
+    }
+}
+
+impl Task {
+    /// Makes a call, which must give what is expected; gives what it cost.
+    fn done(&self, what: &str, call: Call) -> Result<Cost, String> {
+        let (cost, given) = call();
+        match given == self.expected {
+            true => Ok(cost),
+            false => Err(format!("{what}: {given:?}, not {:?}", self.expected)),
+        }
     }
 }

@@ -6,6 +6,8 @@
 
 mod difference;
 mod error;
+#[cfg(fuzzing)]
+mod fuzz;
 mod image;
 mod journals;
 mod lent;
@@ -57,6 +59,12 @@ enum Command {
     Image(String),
 }
 
+#[cfg(fuzzing)]
+fn main() -> ExitCode {
+    fuzz::run()
+}
+
+#[cfg(not(fuzzing))]
 fn main() -> ExitCode {
     match command(std::env::args().skip(1)) {
         None => {

@@ -48,6 +48,15 @@ pub fn run(run: &Run) -> Outcome {
     Ok(())
 }
 
+/// An input of the fuzzer.
+#[cfg(fuzzing)]
+pub fn fuzzed(bytes: &[u8], random: &mut Random) -> Outcome {
+    let case = exhaustive_case(0, crate::fuzz::FUZZED, bytes);
+    let lent = |found| some_lent(bytes.len(), found, random);
+    compare(bytes, lent).map_err(|finding| case.differs(finding))?;
+    Ok(())
+}
+
 fn exhaustive_case<'a>(number: u64, kind: &'static str, bytes: &'a [u8]) -> Case<'a> {
     Case {
         subject: SUBJECT,

@@ -23,6 +23,12 @@ pub fn run(run: &Run) -> Outcome {
     super::run(&CARVER, run)
 }
 
+/// An input of the fuzzer.
+#[cfg(fuzzing)]
+pub fn fuzzed(bytes: &[u8], random: &mut crate::random::Random) -> Outcome {
+    super::listing::random_case(&CARVER, (0, 0), crate::fuzz::FUZZED, bytes, random)
+}
+
 fn rust(data: &[u8]) -> Given {
     let (carved, stats) = carve_usn_records(data);
     let words = vec![

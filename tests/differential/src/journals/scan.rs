@@ -24,6 +24,12 @@ pub fn run(run: &Run) -> Outcome {
     super::run(&SCAN, run)
 }
 
+/// An input of the fuzzer.
+#[cfg(fuzzing)]
+pub fn fuzzed(bytes: &[u8], random: &mut crate::random::Random) -> Outcome {
+    super::listing::random_case(&SCAN, (0, 0), crate::fuzz::FUZZED, bytes, random)
+}
+
 fn rust(data: &[u8]) -> Given {
     let records = parse_usn_journal(data).expect("the scan has no error");
     Given {

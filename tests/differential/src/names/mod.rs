@@ -51,6 +51,14 @@ pub fn run(run: &Run) -> Outcome {
     Ok(())
 }
 
+/// An input of the fuzzer.
+#[cfg(fuzzing)]
+pub fn fuzzed(bytes: &[u8], random: &mut Random) -> Outcome {
+    let text = text(bytes);
+    let rooms = some_rooms(text.len(), random);
+    compare(bytes, text.as_bytes(), &rooms).map_err(|finding| exhaustive_case(0, bytes).differs(finding))
+}
+
 /// The rooms where every one is tried: a text just full, one byte short, one of none, and longer ones; with answers of
 /// no word, of one and of more.
 fn every_room(length: usize) -> Vec<Room> {

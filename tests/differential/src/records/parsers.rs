@@ -4,6 +4,8 @@ use super::answers::{compare_parser, LENT, PARSERS};
 use super::layout::LAYOUTS;
 use super::{cases, edges, lent};
 use crate::difference::{Case, Difference, Outcome};
+#[cfg(fuzzing)]
+use crate::fuzz::FUZZED;
 use crate::library::DOMAIN;
 use crate::random::Random;
 use crate::Run;
@@ -25,6 +27,12 @@ pub fn run(run: &Run) -> Outcome {
     }
     println!("{SUBJECT}: {} cases, seed {}, no difference", run.cases, run.seed);
     Ok(())
+}
+
+/// An input of the fuzzer.
+#[cfg(fuzzing)]
+pub fn fuzzed(bytes: &[u8], random: &mut Random) -> Outcome {
+    compare(None, 0, FUZZED, bytes, &[lent(random)])
 }
 
 /// Both parsers on one input, lent each number of words in turn.

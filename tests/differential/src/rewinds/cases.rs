@@ -66,6 +66,11 @@ impl World {
         if random.one_in(4) {
             images::fill(random, &mut image);
         }
+        Self::of(kind, journal, image)
+    }
+
+    /// A journal and an image, with the keys that the journal names.
+    pub fn of(kind: &'static str, journal: Vec<u8>, image: Vec<u8>) -> Self {
         let mut keys = vec![ROOT];
         for record in parse_usn_journal(&journal).expect("the scan has no error") {
             keys.push([record.mft_entry, record.mft_sequence.into()]);

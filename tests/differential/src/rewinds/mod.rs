@@ -55,6 +55,21 @@ pub fn run(run: &Run) -> Outcome {
     Ok(())
 }
 
+/// An input of the fuzzer: its first byte says, in 256ths, which part of the rest is the journal; the image is what is left.
+#[cfg(fuzzing)]
+pub fn fuzzed(bytes: &[u8], random: &mut Random) -> Outcome {
+    let Some((&part, both)) = bytes.split_first() else {
+        return Ok(());
+    };
+    let (journal, image) = both.split_at(both.len() * usize::from(part) / 256);
+    let world = World::of(crate::fuzz::FUZZED, journal.to_vec(), image.to_vec());
+    let case = Case {
+        bytes,
+        ..exhaustive_case(0, world.kind)
+    };
+    random_case(random, &world, &[], &mut Made::default()).map_err(|finding| case.differs(finding))
+}
+
 /// A rewind of a reader's list over a table that is just large enough or larger, with other calls beside it.
 fn random_case(random: &mut Random, world: &World, above: &[u8], made: &mut Made) -> Result<(), Finding> {
     let records = world.records(random)?;

@@ -67,6 +67,19 @@ fn subject(run: &Run) -> Outcome {
     short_reads::run()
 }
 
+/// An input of the fuzzer.
+#[cfg(fuzzing)]
+pub fn fuzzed(bytes: &[u8], random: &mut Random) -> Outcome {
+    let case = Case {
+        subject: SUBJECT,
+        seed: None,
+        number: 0,
+        kind: crate::fuzz::FUZZED,
+        bytes,
+    };
+    random_case(&mut Pair::new(), bytes, random).map_err(|finding| case.differs(finding))
+}
+
 /// A journal, delivered in two ways.
 fn random_case(pair: &mut Pair, bytes: &[u8], random: &mut Random) -> Result<(), Finding> {
     let stream = Stream::of(bytes)?;

@@ -1,0 +1,134 @@
+//! Our calls, timed.
+
+use super::history::History;
+use super::rust::paths;
+use crate::cost::{clock, Cost};
+use crate::layout::ENTRY;
+use crate::library::{mft_carve_entries, usn_parse_journal, ACCEPTED, ENTRY_WORDS};
+use crate::paths::library::{table_seed, Sources, SLOT_WORDS};
+use crate::rewind::{EntryKey, RewindEngine};
+use crate::rewind_library::{rewind_next, rewind_start, State, PATH_STEP_WORDS, START_WORDS};
+use crate::sum::Sum;
+use crate::texts::Texts;
+use std::hint::black_box;
+
+/// A table in lent memory.
+struct Slots {
+    words: Vec<u64>,
+    used: usize,
+}
+
+impl Slots {
+    /// An empty table of so many slots, in memory that has been written.
+    fn cleared(slots: usize) -> Self {
+        let mut words = black_box(vec![0; SLOT_WORDS * slots]);
+        words.fill(0);
+        Self { words, used: 0 }
+    }
+
+    fn seed(&mut self, names: Sources, entries: &[u64]) {
+        let mut out = [0];
+        let answer = table_seed(names, &mut self.words, self.used, entries, &mut out);
+        assert_eq!(answer, ACCEPTED, "the table has room");
+        self.used = out[0] as usize;
+    }
+}
+
+/// The entries are carved before the time begins. There is a slot for each.
+pub fn seed(history: &History, _: &Sum) -> (Cost, Sum) {
+    let entries = carved(history);
+    let mut slots = Slots::cleared(history.entries);
+    let names = Sources {
+        journal: &[],
+        image: &history.image,
+    };
+    let (cost, ()) = clock(|| slots.seed(names, &entries));
+    (cost, seeded(&slots, &history.image, &entries))
+}
+
+/// The records are listed and the table is seeded before the time begins. Both tables have a slot for each carved entry and each
+/// record, and the texts just fill what is lent for them.
+pub fn rewind(history: &History, expected: &Sum) -> (Cost, Sum) {
+    let names = history.names();
+    let records = listed(history);
+    let room = history.entries + history.records;
+    let mut slots = Slots::cleared(room);
+    slots.seed(names, &carved(history));
+    let mut forward = Slots::cleared(room);
+    let mut texts = black_box(Texts::fresh(history.records, expected.text));
+    texts.clear();
+    let (cost, ()) = clock(|| {
+        start(names, &records, &mut slots, &mut forward);
+        // Each step is lent the one record that it is about: it tests all that it is lent.
+        texts.write(records.chunks_exact(2), |record, text| {
+            step(names, record, &mut forward, text)
+        });
+    });
+    let mut sum = Sum::default();
+    texts.iter().for_each(|text| sum.add_text(text));
+    (cost, sum)
+}
+
+/// Begins the rewind.
+fn start(names: Sources, records: &[usize], slots: &mut Slots, forward: &mut Slots) {
+    let mut out = [0; START_WORDS];
+    let answer = rewind_start(
+        names,
+        records,
+        &mut slots.words,
+        slots.used,
+        &mut forward.words,
+        &mut out,
+    );
+    assert_eq!(answer, ACCEPTED, "both tables have room");
+    slots.used = out[0] as usize;
+    forward.used = slots.used;
+}
+
+/// The path of the one record that is lent; gives the length of its text.
+fn step(names: Sources, record: &[usize], forward: &mut Slots, text: &mut [u8]) -> usize {
+    let mut out = [0; PATH_STEP_WORDS];
+    let state = State {
+        used: forward.used,
+        position: 0,
+    };
+    let answer = rewind_next(names, record, state, &mut forward.words, &mut [], text, &mut out);
+    assert_eq!(answer, ACCEPTED, "table and text have room");
+    forward.used = out[1] as usize;
+    out[7] as usize
+}
+
+/// The records of the journal, as the scan lists them.
+fn listed(history: &History) -> Vec<usize> {
+    let mut list = vec![0; 2 * history.records];
+    let mut out = [0];
+    let answer = usn_parse_journal(&history.journal, &mut list, &mut out);
+    assert_eq!(answer, ACCEPTED, "the list has room");
+    assert_eq!(out[0] as usize, history.records, "every record is listed");
+    list
+}
+
+/// The entries of the image, as the carver lists them.
+fn carved(history: &History) -> Vec<u64> {
+    let mut list = vec![0; ENTRY_WORDS * (history.image.len() / ENTRY)];
+    let mut out = [0; 4];
+    let answer = mft_carve_entries(&history.image, &mut list, &mut out);
+    assert_eq!(answer, ACCEPTED, "the list has room");
+    assert_eq!(out[2] as usize, history.entries, "every entry is carved");
+    list
+}
+
+/// What a seeded table knows: its used slots, and the paths of all entries by a table of the Rust's with the same keys.
+fn seeded(slots: &Slots, image: &[u8], entries: &[u64]) -> Sum {
+    let used = slots.words.chunks_exact(SLOT_WORDS).take(slots.used);
+    let engine = RewindEngine::from_mft(used.map(|slot| {
+        let [offset, length] = [slot[5], slot[6]].map(|word| word as usize);
+        let units = image[offset..offset + length].chunks_exact(2);
+        let units: Vec<u16> = units.map(|unit| u16::from_le_bytes([unit[0], unit[1]])).collect();
+        let name = String::from_utf16_lossy(&units);
+        (slot[0], slot[1] as u16, name, slot[2], slot[3] as u16)
+    }));
+    let keys = entries.chunks_exact(ENTRY_WORDS);
+    let keys = keys.map(|entry| EntryKey::new(entry[1], entry[2] as u16));
+    paths(&engine, slots.used, keys)
+}
