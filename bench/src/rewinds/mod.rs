@@ -30,16 +30,23 @@ struct Way {
 enum Through {
     /// The carved entries. Ours is lent the image.
     Entries,
-    /// The records. Ours is lent the journal and the image.
+    /// The records. Ours is lent the journal, and makes the names of the image ready for itself.
     Records,
 }
 
-const WAYS: [Way; 2] = [
+const WAYS: [Way; 4] = [
     Way {
         what: "seed",
         goes_through: Through::Entries,
         plain: true,
         ours: ours::seed,
+        rust: rust::seed,
+    },
+    Way {
+        what: "seed by way of an index",
+        goes_through: Through::Entries,
+        plain: false,
+        ours: ours::seed_indexed,
         rust: rust::seed,
     },
     Way {
@@ -49,16 +56,22 @@ const WAYS: [Way; 2] = [
         ours: ours::rewind,
         rust: rust::rewind,
     },
+    Way {
+        what: "rewind in one run, paths kept",
+        goes_through: Through::Records,
+        plain: false,
+        ours: ours::rewind_indexed,
+        rust: rust::rewind,
+    },
 ];
 
 impl Through {
     /// How many these are, how they are called, and the bytes that ours is lent with them. The Rust has all that it needs in the
     /// entries and the records that were made ready for it.
     fn of(self, history: &History) -> (usize, &'static str, usize) {
-        let image = history.image.len();
         match self {
-            Through::Entries => (history.entries, "entries", image),
-            Through::Records => (history.records, "records", history.journal.len() + image),
+            Through::Entries => (history.entries, "entries", history.image.len()),
+            Through::Records => (history.records, "records", history.journal.len()),
         }
     }
 }

@@ -5,9 +5,12 @@ use super::rust::paths;
 use crate::cost::{clock, Cost};
 use crate::layout::ENTRY;
 use crate::library::{mft_carve_entries, usn_parse_journal, ACCEPTED, ENTRY_WORDS};
-use crate::paths::library::{table_seed, Sources, SLOT_WORDS};
+use crate::paths::library::{table_seed, table_seed_indexed, Sources, SLOT_WORDS};
 use crate::rewind::{EntryKey, RewindEngine};
-use crate::rewind_library::{rewind_next, rewind_start, State, PATH_STEP_WORDS, START_WORDS};
+use crate::rewind_library::{
+    rewind_next, rewind_run, rewind_start, rewind_start_indexed, RunLent, State, PATH_STEP_WORDS, RUN_WORDS,
+    START_WORDS,
+};
 use crate::sum::Sum;
 use crate::texts::Texts;
 use std::hint::black_box;
@@ -32,6 +35,47 @@ impl Slots {
         assert_eq!(answer, ACCEPTED, "the table has room");
         self.used = out[0] as usize;
     }
+
+    fn seed_indexed(&mut self, names: Sources, entries: &[u64], index: &mut Index) {
+        let mut out = [0];
+        let answer = table_seed_indexed(names, &mut self.words, self.used, entries, index.lent(), &mut out);
+        assert_eq!(answer, ACCEPTED, "the table has room");
+        self.used = out[0] as usize;
+    }
+
+    /// The names of the used slots alone, out of the image, where the slots then have them.
+    fn take_names(&mut self, image: &[u8]) -> Vec<u8> {
+        let mut names = Vec::new();
+        for slot in self.words.chunks_exact_mut(SLOT_WORDS).take(self.used) {
+            let [offset, length] = [slot[5], slot[6]].map(|word| word as usize);
+            slot[5] = names.len() as u64;
+            names.extend_from_slice(&image[offset..offset + length]);
+        }
+        names.shrink_to_fit();
+        names
+    }
+}
+
+/// Words for an index of a table.
+struct Index {
+    heads: Vec<u64>,
+    nexts: Vec<u64>,
+}
+
+impl Index {
+    /// A head and a next for each slot, in memory that has been written.
+    fn cleared(slots: usize) -> Self {
+        let [heads, nexts] = [(); 2].map(|()| {
+            let mut words = black_box(vec![0; slots]);
+            words.fill(0);
+            words
+        });
+        Self { heads, nexts }
+    }
+
+    fn lent(&mut self) -> [&mut [u64]; 2] {
+        [&mut self.heads, &mut self.nexts]
+    }
 }
 
 /// The entries are carved before the time begins. There is a slot for each.
@@ -46,27 +90,118 @@ pub fn seed(history: &History, _: &Sum) -> (Cost, Sum) {
     (cost, seeded(&slots, &history.image, &entries))
 }
 
-/// The records are listed and the table is seeded before the time begins. Both tables have a slot for each carved entry and each
-/// record, and the texts just fill what is lent for them.
+/// The same by way of an index.
+pub fn seed_indexed(history: &History, _: &Sum) -> (Cost, Sum) {
+    let entries = carved(history);
+    let mut slots = Slots::cleared(history.entries);
+    let mut index = Index::cleared(history.entries);
+    let names = Sources {
+        journal: &[],
+        image: &history.image,
+    };
+    let (cost, ()) = clock(|| slots.seed_indexed(names, &entries, &mut index));
+    (cost, seeded(&slots, &history.image, &entries))
+}
+
+/// What a rewind begins with: the table, seeded, with the names that its slots have, the forward table, and the listed records. Both
+/// tables have a slot for each carved entry and each record.
+struct Ready {
+    names: Vec<u8>,
+    records: Vec<usize>,
+    slots: Slots,
+    forward: Slots,
+}
+
+impl Ready {
+    fn of(history: &History) -> Self {
+        let room = history.entries + history.records;
+        let mut slots = Slots::cleared(room);
+        slots.seed_indexed(history.names(), &carved(history), &mut Index::cleared(room));
+        Self {
+            names: slots.take_names(&history.image),
+            records: listed(history),
+            slots,
+            forward: Slots::cleared(room),
+        }
+    }
+}
+
+/// The records are listed and the table is seeded before the time begins, and the texts just fill what is lent for them. Of the image
+/// the names alone are lent.
 pub fn rewind(history: &History, expected: &Sum) -> (Cost, Sum) {
-    let names = history.names();
-    let records = listed(history);
-    let room = history.entries + history.records;
-    let mut slots = Slots::cleared(room);
-    slots.seed(names, &carved(history));
-    let mut forward = Slots::cleared(room);
+    let mut ready = Ready::of(history);
+    let names = Sources {
+        journal: &history.journal,
+        image: &ready.names,
+    };
     let mut texts = black_box(Texts::fresh(history.records, expected.text));
     texts.clear();
     let (cost, ()) = clock(|| {
-        start(names, &records, &mut slots, &mut forward);
+        start(names, &ready.records, &mut ready.slots, &mut ready.forward);
         // Each step is lent the one record that it is about: it tests all that it is lent.
-        texts.write(records.chunks_exact(2), |record, text| {
-            step(names, record, &mut forward, text)
+        texts.write(ready.records.chunks_exact(2), |record, text| {
+            step(names, record, &mut ready.forward, text)
         });
     });
     let mut sum = Sum::default();
     texts.iter().for_each(|text| sum.add_text(text));
     (cost, sum)
+}
+
+/// The same in two calls, by way of an index.
+pub fn rewind_indexed(history: &History, expected: &Sum) -> (Cost, Sum) {
+    let mut ready = Ready::of(history);
+    let names = Sources {
+        journal: &history.journal,
+        image: &ready.names,
+    };
+    let mut index = Index::cleared(history.entries + history.records);
+    let mut text = black_box(vec![0; expected.text]);
+    text.fill(0);
+    let mut ends = black_box(vec![0; history.records]);
+    ends.fill(0);
+    let (cost, ()) = clock(|| run(names, &mut ready, &mut index, &mut ends, &mut text));
+    let mut sum = Sum::default();
+    let mut from = 0;
+    for &end in &ends {
+        sum.add_text(&text[from..end as usize]);
+        from = end as usize;
+    }
+    (cost, sum)
+}
+
+/// The whole rewind.
+fn run(names: Sources, ready: &mut Ready, index: &mut Index, ends: &mut [u64], text: &mut [u8]) {
+    let mut out = [0; START_WORDS];
+    let (slots, forward) = (&mut ready.slots, &mut ready.forward.words);
+    let answer = rewind_start_indexed(
+        names,
+        &ready.records,
+        &mut slots.words,
+        slots.used,
+        forward,
+        index.lent(),
+        &mut out,
+    );
+    assert_eq!(answer, ACCEPTED, "both tables have room");
+    let state = State {
+        used: out[0] as usize,
+        position: 0,
+    };
+    let steps = ends.len() as u64;
+    let mut out = [0; RUN_WORDS];
+    let lent = RunLent {
+        index: index.lent(),
+        ends,
+        text,
+        out: &mut out,
+    };
+    let answer = rewind_run(names, &ready.records, state, forward, lent);
+    assert_eq!(
+        (answer, out[0], out[1]),
+        (ACCEPTED, steps, 0),
+        "table and text have room"
+    );
 }
 
 /// Begins the rewind.
