@@ -151,16 +151,12 @@ pub fn rewind(history: &History, expected: &Sum) -> (Cost, Sum) {
 /// The same in two calls, by way of an index.
 pub fn rewind_indexed(history: &History, expected: &Sum) -> (Cost, Sum) {
     let mut ready = Ready::of(history);
-    let names = Sources {
-        journal: &history.journal,
-        image: &ready.names,
-    };
     let mut index = Index::cleared(history.entries + history.records);
     let mut text = black_box(vec![0; expected.text]);
     text.fill(0);
     let mut ends = black_box(vec![0; history.records]);
     ends.fill(0);
-    let (cost, ()) = clock(|| run(names, &mut ready, &mut index, &mut ends, &mut text));
+    let (cost, ()) = clock(|| run(&history.journal, &mut ready, &mut index, &mut ends, &mut text));
     let mut sum = Sum::default();
     let mut from = 0;
     for &end in &ends {
@@ -171,7 +167,11 @@ pub fn rewind_indexed(history: &History, expected: &Sum) -> (Cost, Sum) {
 }
 
 /// The whole rewind.
-fn run(names: Sources, ready: &mut Ready, index: &mut Index, ends: &mut [u64], text: &mut [u8]) {
+fn run(journal: &[u8], ready: &mut Ready, index: &mut Index, ends: &mut [u64], text: &mut [u8]) {
+    let names = Sources {
+        journal,
+        image: &ready.names,
+    };
     let mut out = [0; START_WORDS];
     let (slots, forward) = (&mut ready.slots, &mut ready.forward.words);
     let answer = rewind_start_indexed(
