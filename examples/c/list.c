@@ -6,16 +6,17 @@
  * Run:
  *     target/list samples/journal.bin
  *
- * The time for a journal of n records with k different files grows with n times k, since a step of a rewind looks at every used
- * slot of its table. */
+ * The time grows with the records: a run of the rewind tells the paths of as many as its text has room for. */
 #include <inttypes.h>
 #include <stdio.h>
 #include <stdlib.h>
 
 #include "volume_history.h"
 
-/* The longest path that is shown, in bytes. */
+/* The longest path that is shown, in bytes, and how much room for text there is for each record. A run costs a pass over all
+ * records, so that its text has room for many. */
 #define LONGEST_PATH 65536
+#define USUAL_PATH 64
 
 /* Ends the program with a message. */
 static void stop(const char *what)
@@ -87,10 +88,14 @@ static void print_numbers(const uint8_t *journal, size_t length, size_t offset)
            r[USN_REASON]);
 }
 
-/* The bytes of a path; control characters are shown as question marks. */
+/* The bytes of a path; control characters are shown as question marks, and one alone for a path that is too long. */
 static void print_path(uint8_t *text, size_t length)
 {
     size_t i;
+    if (length > LONGEST_PATH) {
+        putchar('?');
+        return;
+    }
     for (i = 0; i < length; i++) {
         if (text[i] < 0x20) {
             text[i] = '?';
@@ -99,39 +104,52 @@ static void print_path(uint8_t *text, size_t length)
     fwrite(text, 1, length, stdout);
 }
 
-/* The lines of all listed records. A step is lent the one record that it is about: it tests all that it is lent. */
+/* The lines of all listed records. */
 static void list_records(const uint8_t *journal, size_t length, const size_t *list, size_t records)
 {
-    static uint8_t text[LONGEST_PATH];
     const uint8_t *image = journal; /* there is none: its count is 0 */
-    size_t words = records * TABLE_SLOT_WORDS;
-    uint64_t *slots = lent(words, sizeof *slots);
-    uint64_t *forward = lent(words, sizeof *forward);
+    size_t places = records * USN_PLACE_WORDS, words = records * TABLE_SLOT_WORDS, room = LONGEST_PATH + records * USUAL_PATH;
+    uint64_t *slots = lent(words, sizeof *slots), *forward = lent(words, sizeof *forward);
+    uint64_t *heads = lent(records, sizeof *heads), *nexts = lent(records, sizeof *nexts), *ends = lent(records, sizeof *ends);
+    uint8_t *text = lent(room, 1);
     uint64_t chain[1]; /* the places are not asked for: its count is 0 */
-    uint64_t out[REWIND_STEP_WORDS];
-    size_t i, used;
-    uint32_t refusal;
+    uint64_t out[REWIND_CHAIN_STEP_WORDS];
+    size_t used, position = 0;
 
-    answered("rewind_start", rewind_start(journal, length, image, 0, list, records * USN_PLACE_WORDS, slots, words, 0, forward,
-                                          words, out, REWIND_START_WORDS));
+    answered("rewind_start_indexed",
+             rewind_start_indexed(journal, length, image, 0, list, places, slots, words, 0, forward, words, heads, records, nexts,
+                                  records, out, REWIND_START_WORDS));
     free(slots);
     used = out[REWIND_START_USED];
-    for (i = 0; i < records; i++) {
-        const size_t *record = list + i * USN_PLACE_WORDS;
-        print_numbers(journal, length, record[0]);
-        refusal = rewind_next(journal, length, image, 0, record, USN_PLACE_WORDS, used, 0, forward, words, chain, 0, text,
-                              LONGEST_PATH, out, REWIND_STEP_WORDS);
-        if (refusal == USN_TEXT_FULL) {
-            putchar('?');
-            refusal = rewind_next_chain(journal, length, image, 0, record, USN_PLACE_WORDS, used, 0, forward, words, chain, 0, out,
-                                        REWIND_CHAIN_STEP_WORDS);
-        } else if (refusal == USN_OK) {
-            print_path(text, out[REWIND_STEP_TEXT_LENGTH]);
+    while (position < records) {
+        size_t i, from = 0, steps;
+        answered("rewind_run", rewind_run(journal, length, image, 0, list, places, used, position, forward, words, heads, records,
+                                          nexts, records, ends, records - position, text, room, out, REWIND_RUN_WORDS));
+        steps = out[REWIND_RUN_STEPS];
+        for (i = 0; i < steps; i++) {
+            print_numbers(journal, length, list[(position + i) * USN_PLACE_WORDS]);
+            print_path(text + from, ends[i] - from);
+            putchar('\n');
+            from = ends[i];
         }
-        answered("a step of the rewind", refusal);
-        putchar('\n');
-        used = out[REWIND_STEP_USED];
+        used = out[REWIND_RUN_USED];
+        position = out[REWIND_RUN_POSITION];
+        if (out[REWIND_RUN_REFUSAL] == USN_TEXT_FULL && steps == 0) {
+            /* The next path is longer than all the text. */
+            print_numbers(journal, length, list[position * USN_PLACE_WORDS]);
+            puts("?");
+            answered("rewind_next_chain", rewind_next_chain(journal, length, image, 0, list, places, used, position, forward, words,
+                                                            chain, 0, out, REWIND_CHAIN_STEP_WORDS));
+            used = out[REWIND_STEP_USED];
+            position = out[REWIND_STEP_POSITION];
+        } else if (out[REWIND_RUN_REFUSAL] != USN_TEXT_FULL) {
+            answered("a step of the rewind", (uint32_t)out[REWIND_RUN_REFUSAL]);
+        }
     }
+    free(text);
+    free(ends);
+    free(nexts);
+    free(heads);
     free(forward);
 }
 
