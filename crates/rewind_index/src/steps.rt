@@ -88,7 +88,16 @@ fn tell(
     ensures { λ _. ⌜ now (text .exit) ≡ textAfter (now (journal .entry)) (now (image .entry)) at (telling (now (journal .entry)) (now (image .entry)) (table (now (forward .entry)) used) parent name (length (now (text .entry)) - at)) (now (text .entry)) ⌝ }
 {
     match put_behind(
-        journal, image, forward, used, heads, nexts, parent, name, text, at,
+        journal,
+        image,
+        forward,
+        used,
+        heads,
+        nexts,
+        parent,
+        name,
+        text,
+        at,
     ) {
         Behind::To(to) => Made::To { at: to, used },
         Behind::Full => {
@@ -186,9 +195,7 @@ fn run_step(
         return Made::End;
     }
     let entry = entry_at(journal, records[position * 2]);
-    make_step(
-        journal, image, entry, used, forward, heads, nexts, text, at,
-    )
+    make_step(journal, image, entry, used, forward, heads, nexts, text, at)
 }
 
 // As many steps as there are words for the ends of their texts, where the tests have passed.
@@ -218,7 +225,16 @@ pub(crate) fn run(
     let mut i: usize = 0;
     while i < ends.len() {
         match run_step(
-            journal, image, records, used, position, forward, heads, nexts, text, at,
+            journal,
+            image,
+            records,
+            used,
+            position,
+            forward,
+            heads,
+            nexts,
+            text,
+            at,
         ) {
             Made::To { at: to, used: n } => {
                 ends[i] = to as u64;

@@ -1,0 +1,4 @@
+pub mod KeepLaws
+pub mod MakeLaws
+pub mod StepLaws
+pub mod RunLaws
