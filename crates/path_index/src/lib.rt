@@ -52,16 +52,7 @@ pub fn put_behind(
     ensures { λ r. ⌜ r ≡ behind (now (text .entry)) at (entryText (now (journal .entry)) (now (image .entry)) (table (now (slots .entry)) used) parent name) ⌝ }
     ensures { λ _. ⌜ now (text .exit) ≡ textBehind (now (text .entry)) at (entryText (now (journal .entry)) (now (image .entry)) (table (now (slots .entry)) used) parent name) ⌝ }
 {
-    let above = measure(
-        journal,
-        image,
-        slots,
-        used,
-        heads,
-        nexts,
-        parent,
-        DEPTH + 1,
-    );
+    let above = measure(journal, image, slots, used, heads, nexts, parent, DEPTH + 1);
     let end = above.end;
     let n = end_length(end) + above.names + step_length(journal, image, name);
     if text.len() - at < n {
