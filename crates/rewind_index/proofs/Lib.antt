@@ -2,3 +2,4 @@ pub mod KeepLaws
 pub mod MakeLaws
 pub mod StepLaws
 pub mod RunLaws
+pub mod AsSteps
