@@ -35,7 +35,6 @@ module _ (journal image records : List ℕ) (room : ℕ) where
       go : (o : Outcome (Next Step)) → ((q : Run) → run n q ≡ gathered journal image q (outcomesOf n q))
           → onward (run n) journal image r o
           ≡ gathered journal image (onward (λ q. q) journal image r o) (calls journal image records (roomsOn (roomsOf n) journal image r o) (wordsAfter o (r .words)) (rewindAfter o (r .rewind)))
-      unfolding calls
       go (refused k) more = refl
       go (answered ended) more = refl
       go (answered (next x)) more = more (oneMore journal image r x)
@@ -47,7 +46,6 @@ module _ (journal image records : List ℕ) (room : ℕ) where
     where
       go : (o : Outcome (Next Step)) → ((q : Run) → leftBy (run n q) ≡ leftOf n q)
           → leftBy (onward (run n) journal image r o) ≡ callsLeave journal image records (roomsOn (roomsOf n) journal image r o) (wordsAfter o (r .words)) (rewindAfter o (r .rewind))
-      unfolding callsLeave
       go (refused k) more = refl
       go (answered ended) more = refl
       go (answered (next x)) more = more (oneMore journal image r x)
