@@ -3,13 +3,13 @@
 // Heads of length 0 are no index: a key is then found by passing over the used slots.
 ghost use mathlib.Core.Path.{_≡_};
 ghost use mathlib.Core.List.{[], _∷_};
-ghost use Prim.Native.Nat.{_*_, _≤_, _<_};
-ghost use lib.ListN.{length};
+ghost use Prim.Native.Nat.{_+_, _*_, _≤_, _<_};
+ghost use lib.ListN.{length, replicate};
 ghost use Rattle.entry_table.specs.Slots.{stride, slotsIn};
 ghost use Rattle.entry_table.specs.Table.{table, find, addition};
 ghost use Rattle.entry_table.specs.Storing.{adding, usedAfter, wordsAfter, outcome};
 ghost use Rattle.entry_index.specs.Index.{hash, headsOf, nextsOf, Indexed, headsAfter, nextsAfter, enough};
-ghost use Rattle.entry_index.specs.Probing.{Probed};
+ghost use Rattle.entry_index.specs.Probing.{Probed, headsLinked, nextsLinked};
 use entry_table::EntryInfo;
 use entry_table::EntryKey;
 use entry_table::Stored;
@@ -46,7 +46,7 @@ fn hash_of(m: usize, key: EntryKey) -> usize
 }
 
 // The walk along the links of a key's hash.
-fn probe(slots: &[u64], used: usize, heads: &[u64], nexts: &[u64], key: EntryKey) -> Probe
+fn probe_key(slots: &[u64], used: usize, heads: &[u64], nexts: &[u64], key: EntryKey) -> Probe
     requires { ⌜ (used * stride ≤ length (now slots)) × (0 < length (now heads)) × (used ≤ length (now nexts)) ⌝ }
     requires { ⌜ Indexed (table (now slots) used) (now heads) (now nexts) ⌝ }
     ensures { λ r. ⌜ Probed (length (now (heads .entry))) (table (now (slots .entry)) used) key r ⌝ }
@@ -73,9 +73,20 @@ pub fn find(slots: &[u64], used: usize, heads: &[u64], nexts: &[u64], key: Entry
     if heads.len() == 0 {
         return entry_table::slots::find(slots, used, key);
     }
-    match probe(slots, used, heads, nexts, key) {
+    match probe_key(slots, used, heads, nexts, key) {
         Probe::Hit(i) => Found::At(i),
         Probe::Last(_) => Found::Nothing,
+    }
+}
+
+// Sets every word to 0.
+fn clear(words: &mut [u64])
+    ensures { λ _. ⌜ now (words .exit) ≡ replicate (length (now (words .entry))) 0 ⌝ }
+{
+    let mut i: usize = 0;
+    while i < words.len() {
+        words[i] = 0;
+        i += 1;
     }
 }
 
@@ -100,6 +111,20 @@ pub fn build(slots: &[u64], used: usize, heads: &mut [u64], nexts: &mut [u64])
     }
 }
 
+// Puts slot `used`, in which the key stands, behind the last link of its hash, or first where there is none.
+fn link(used: usize, heads: &mut [u64], nexts: &mut [u64], key: EntryKey, last: u64)
+    requires { ⌜ (0 < length (now heads)) × (used < length (now nexts)) × (last ≤ used) ⌝ }
+    ensures { λ _. ⌜ now (heads .exit) ≡ headsLinked (now (heads .entry)) (hash (length (now (heads .entry))) key) last (used + 1) ⌝ }
+    ensures { λ _. ⌜ now (nexts .exit) ≡ nextsLinked (now (nexts .entry)) last (used + 1) ⌝ }
+{
+    let next = (used + 1) as u64;
+    if last == 0 {
+        heads[hash_of(heads.len(), key)] = next;
+        return;
+    }
+    nexts[(last - 1) as usize] = next;
+}
+
 // What `entry_table::slots::add` does, by way of the index, which it keeps.
 pub fn add(
     slots: &mut [u64],
@@ -120,7 +145,7 @@ pub fn add(
     if heads.len() == 0 {
         return entry_table::slots::add(slots, used, key, info, replace);
     }
-    match probe(slots, used, heads, nexts, key) {
+    match probe_key(slots, used, heads, nexts, key) {
         Probe::Hit(i) => {
             if replace {
                 put(slots, i, key, info);

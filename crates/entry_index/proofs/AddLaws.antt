@@ -1,0 +1,68 @@
+-- An addition by way of an index: each way out, and what it leaves. Assumes nothing.
+use Prim.Native.Nat.{ℕ, zero, suc, _+_, _-_, _*_, _≤_, _<_}
+use mathlib.Core.Path.{_≡_, refl, ap, sym, _∙_, subst}
+use mathlib.Core.List.{List, [], _∷_}
+use mathlib.Core.Bool.{Bool, true, false, cond}
+use native.Mathlib.Omega.{arith}
+use borrow.Author.Tests.{eqb-true, eqb-false}
+use lib.ListN.{length, getD}
+use lib.Dec.{eqb}
+use Rattle.walk.specs.Outcome.{Outcome, refused, answered}
+use Rattle.entry_table.specs.Slots.{stride, slotsIn, keyAt, putAt}
+use Rattle.entry_table.specs.Table.{Table, table, find, Addition, addition}
+use Rattle.entry_table.specs.Storing.{usedAfter, wordsAfter}
+use Rattle.entry_table.specs.declared.EntryKey.{EntryKey}
+use Rattle.entry_table.specs.declared.EntryInfo.{EntryInfo}
+use Rattle.entry_table.specs.declared.slots.Found.the-variants.{At, Nothing}
+use Rattle.entry_table.proofs.FindLaws.{same-equal, find-at}
+use Rattle.entry_table.proofs.PutLaws.{put-key, put-key-other}
+use Rattle.entry_table.proofs.TableLaws.{find-used}
+use Rattle.entry_index.specs.Index.{hash, headsOf, nextsOf, Indexed, headsAfter, nextsAfter}
+use Rattle.entry_index.specs.Probing.{LastOf, headsLinked, nextsLinked}
+use Rattle.entry_index.proofs.IndexLaws.{hash-below, Links, links-index, indexed-links, length-linked, no-heads, no-nexts}
+use Rattle.entry_index.proofs.KeepLaws.{links-same, links-more}
+
+-- what a call answers and leaves, where its outcome is known
+pub comes-indexed : {o p : Outcome Table} (s heads nexts : List ℕ) {r : Outcome ℕ} {w h n : List ℕ} → o ≡ p → r ≡ usedAfter p → w ≡ wordsAfter p s
+    → (h ≡ headsAfter p heads) × (n ≡ nextsAfter (length heads) p nexts)
+    → (r ≡ usedAfter o) × ((w ≡ wordsAfter o s) × ((h ≡ headsAfter o heads) × (n ≡ nextsAfter (length heads) o nexts)))
+comes-indexed s heads nexts e x y z = (rw e x, (rw e y, (rw e (z .0), rw e (z .1))))
+
+-- where there is no index, none is left
+pub none-after : (o : Outcome Table) (heads nexts : List ℕ) → length heads ≤ 0 → (heads ≡ headsAfter o heads) × (nexts ≡ nextsAfter (length heads) o nexts)
+none-after (refused n) heads nexts h = (refl, refl)
+none-after (answered t) heads nexts h = (no-heads (length heads) t heads h refl, no-nexts (length heads) t nexts h)
+
+module _ (t : Table) (heads nexts : List ℕ) (some : 0 < length heads) (x : Indexed t heads nexts) (k : EntryKey) (e : EntryInfo) where
+  links : Links (length heads) t heads nexts
+  links = indexed-links t heads nexts some x
+
+  -- an entry in the slot of its key
+  pub index-over : {i : ℕ} → At i ≡ find t k → t .used ≤ slotsIn (t .words)
+      → (heads ≡ headsOf (length heads) (table (putAt (t .words) i k e) (t .used))) × (nexts ≡ nextsOf (length heads) (table (putAt (t .words) i k e) (t .used)) nexts)
+  index-over {i} f fits = links-index nexts (links-same (putAt (t .words) i k e) links keys) refl
+    where
+      room : i * stride + stride ≤ length (t .words)
+      room = omega (arith, find-used t k i (sym f))
+
+      keys : (j : ℕ) → keyAt (putAt (t .words) i k e) j ≡ keyAt (t .words) j
+      keys j = go (eqb j i) refl
+        where
+          go : (b : Bool) → eqb j i ≡ b → keyAt (putAt (t .words) i k e) j ≡ keyAt (t .words) j
+          go true y =
+              subst (λ (q : ℕ). keyAt (putAt (t .words) i k e) q ≡ keyAt (t .words) q) (sym (eqb-true j i y))
+              (put-key (t .words) i k e room ∙ sym (same-equal (keyAt (t .words) i) k (find-at (t .words) k 0 (t .used) i (sym f) .has)))
+          go false y = put-key-other (t .words) i k e j (eqb-false j i y)
+
+  -- an entry in the first slot that is not used
+  pub index-more : {last : ℕ} {h n : List ℕ} → LastOf (length heads) t (hash (length heads) k) last → t .used < slotsIn (t .words) → slotsIn (t .words) ≤ length nexts
+      → h ≡ headsLinked heads (hash (length heads) k) last (t .used + 1) → n ≡ nextsLinked nexts last (t .used + 1)
+      → (h ≡ headsOf (length heads) (table (putAt (t .words) (t .used) k e) (t .used + 1))) × (n ≡ nextsOf (length heads) (table (putAt (t .words) (t .used) k e) (t .used + 1)) nexts)
+  index-more {last} d fits room p q =
+      rw (p, q)
+      (links-index nexts
+      (links-more (length heads) (t .words) (putAt (t .words) (t .used) k e) (t .used) (hash (length heads) k)
+      (λ j l. put-key-other (t .words) (t .used) k e j (omega arith))
+      (ap (hash (length heads)) (put-key (t .words) (t .used) k e (omega arith)))
+      links (hash-below (length heads) k some) (omega arith) last d)
+      (length-linked nexts last (t .used + 1)))
