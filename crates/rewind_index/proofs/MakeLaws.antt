@@ -8,7 +8,7 @@ use lib.ListN.{length}
 use lib.Seq.{sets}
 use lib.Dec.{ltb}
 use Rattle.walk.specs.Outcome.{Outcome, refused, answered}
-use Rattle.walk.specs.Refusals.{tableFull, textFull}
+use Rattle.walk.specs.Refusals.{tableFull, textFull, domain}
 use Rattle.entry_table.specs.Names.{lengthsOf, inside, allInside}
 use Rattle.entry_table.specs.Slots.{stride, slotsIn, keyAt, infoAt, putAt, namesIn}
 use Rattle.entry_table.specs.Table.{Table, table, slotFor, Addition}
@@ -19,6 +19,7 @@ use Rattle.entry_table.specs.declared.EntryInfo.{EntryInfo}
 use Rattle.entry_table.proofs.AddLaws.{Added, adding-added, added-fits, added-none, added-table, names-added, put-back, slot-full}
 use Rattle.entry_table.proofs.KeptLaws.{add-keeps}
 use Rattle.entry_index.specs.Index.{headsOf, nextsOf, Indexed, headsAfter, nextsAfter}
+use Rattle.entry_index.proofs.SeedLaws.{heads-long, nexts-long, index-again, index-then}
 use Rattle.chain.specs.Settings.{depth}
 use Rattle.path_index.specs.Behind.{entryText, behind, textBehind}
 use Rattle.path_index.specs.declared.Behind.{Behind}
@@ -30,7 +31,6 @@ use Rattle.rewind.specs.declared.entries.RecordEntry.{RecordEntry}
 use Rattle.rewind_index.specs.Making.{making, madeOf, tableAfter, textAfter}
 use Rattle.rewind_index.specs.declared.steps.Made.{Made}
 use Rattle.rewind_index.specs.declared.steps.Made.the-variants.{To, End, Refused}
-use Rattle.rewind_index.proofs.KeepLaws.{many, long, is-index, made-anew, heads-anew}
 
 -- what a step that comes to o has to leave, from a table t, an index of m heads beside the words of nexts, and a text: its answer, the words of the
 -- table, the heads, the nexts and the text
@@ -117,25 +117,35 @@ module _ (journal image : List ℕ) (t : Table) (e : RecordEntry) (text : List �
         long-words = ap (λ (u : Table). length (u .words)) (w .leaves) ∙ add-keeps t a .long
 
         -- what the telling asks
-        pub after-fits : k ≤ slotsIn s
+        after-fits : k ≤ slotsIn s
         after-fits = rw (← w .leaves) at (added-fits t a (w .room))
 
-        pub after-old : t .used ≤ slotsIn s
+        after-old : t .used ≤ slotsIn s
         after-old = omega (arith, long-words)
 
-        pub after-slot : {slot : ℕ} → slot < slotsIn (t .words) → slot < slotsIn s
+        after-slot : {slot : ℕ} → slot < slotsIn (t .words) → slot < slotsIn s
         after-slot g = omega (arith, long-words)
 
-        pub after-index : Indexed (table s k) h n
-        after-index = is-index (length heads) (table s k) nexts heads-are nexts-are
+        after-index : Indexed (table s k) h n
+        after-index = index-again (length heads) (table s k) nexts heads-are nexts-are
 
-        pub after-nexts : (0 < length heads → slotsIn (t .words) ≤ length nexts) → 0 < length h → slotsIn s ≤ length n
-        after-nexts g p = let l = g (omega (arith, many (length heads) (table s k) nexts heads-are nexts-are)) in omega (arith, long-words, long (length heads) (table s k) nexts heads-are nexts-are)
+        after-nexts : (0 < length heads → slotsIn (t .words) ≤ length nexts) → 0 < length h → slotsIn s ≤ length n
+        after-nexts g p = let l = g (omega (arith, heads-long (length heads) (table s k) nexts heads-are nexts-are)) in omega (arith, long-words, nexts-long (length heads) (table s k) nexts heads-are nexts-are)
 
-        pub after-inside : allInside (lengthsOf journal image) (namesIn (t .words) (t .used)) ≡ true → inside (lengthsOf journal image) (e .info .name) ≡ true
+        after-inside : allInside (lengthsOf journal image) (namesIn (t .words) (t .used)) ≡ true → inside (lengthsOf journal image) (e .info .name) ≡ true
             → allInside (lengthsOf journal image) (namesIn s k) ≡ true
         after-inside old own =
             rw (← w .leaves) at (names-added t a (w .room) (lengthsOf journal image) old (rw q own))
+
+        pub make-asks : {slot : ℕ} → slot < slotsIn (t .words) → (0 < length heads → slotsIn (t .words) ≤ length nexts)
+            → allInside (lengthsOf journal image) (namesIn (t .words) (t .used)) ≡ true → (length journal ≤ domain) × (length image ≤ domain)
+            → (inside (lengthsOf journal image) (e .info .name) ≡ true) × (at ≤ length text)
+            → ((k ≤ slotsIn s) × ((slot < slotsIn s) × (t .used ≤ slotsIn s)))
+            × ((Indexed (table s k) h n × (0 < length h → slotsIn s ≤ length n))
+            × ((allInside (lengthsOf journal image) (namesIn s k) ≡ true)
+            × (((length journal ≤ domain) × (length image ≤ domain))
+            × ((inside (lengthsOf journal image) (e .info .name) ≡ true) × (at ≤ length text)))))
+        make-asks g wide old within own = ((after-fits, (after-slot g, after-old)), ((after-index, after-nexts wide), (after-inside old (own .0), (within, own))))
 
         -- what stood in the slot leads back to the table
         back : {slot : ℕ} {key : EntryKey} {info : EntryInfo} → slot ≡ slotFor t (e .key) → key ≡ keyAt (t .words) slot → info ≡ infoAt (t .words) slot
@@ -152,5 +162,5 @@ module _ (journal image : List ℕ) (t : Table) (e : RecordEntry) (text : List �
             let o′ = telling journal image (table s k) (e .info .parent) (e .info .name) (length text - at) in
             let goes′ : adding t (forward e ∷ []) ≡ answered (table s k) = rw (← q) goes in
             let c′ = rw (back qs qk qi) at c in
-            rw goes′
-            (c′ .0, (c′ .1 .0, (heads-anew (length heads) (table s k) nexts heads-are nexts-are (tableAfter o′ t) (c′ .1 .1 .0), (made-anew (length heads) (table s k) nexts heads-are nexts-are (tableAfter o′ t) (c′ .1 .1 .1 .0), c′ .1 .1 .1 .1))))
+            let both = index-then (length heads) (table s k) nexts heads-are nexts-are {u = tableAfter o′ t} {o = answered (tableAfter o′ t)} refl (c′ .1 .1 .0) (c′ .1 .1 .1 .0) in
+            rw goes′ (c′ .0, (c′ .1 .0, (both .0, (both .1, c′ .1 .1 .1 .1))))

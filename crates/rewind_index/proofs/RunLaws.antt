@@ -12,6 +12,7 @@ use Rattle.walk.proofs.ListLaws.{sets-append, sets-front}
 use Rattle.entry_table.specs.Slots.{slotsIn}
 use Rattle.entry_table.specs.Table.{Table, table}
 use Rattle.entry_index.specs.Index.{headsOf, nextsOf, Indexed}
+use Rattle.entry_index.proofs.SeedLaws.{heads-long, nexts-long, index-again, index-then}
 use Rattle.rewind.specs.Environment.{environmentOf, recordsIn, refusalOf}
 use Rattle.rewind.specs.Stepping.{Next, ended, next, Step, forwardTable}
 use Rattle.rewind.specs.Telling.{recordText, told}
@@ -21,7 +22,6 @@ use Rattle.rewind_index.specs.Running.{Run, runFrom, oneMore, onward, ru
 use Rattle.rewind_index.specs.Making.{stateOf, madeOf, tableAfter}
 use Rattle.rewind_index.specs.declared.steps.Made.{Made}
 use Rattle.rewind_index.specs.declared.steps.Made.the-variants.{To, End, Refused}
-use Rattle.rewind_index.proofs.KeepLaws.{many, long, is-index, made-anew, heads-anew}
 use Rattle.rewind_index.proofs.MakeLaws.{Comes}
 use Rattle.rewind_index.proofs.StepLaws.{MadeStep, made-step}
 
@@ -97,6 +97,7 @@ module _ (journal image records words₀ : List ℕ) (r₀ : Rewind) (heads₀ n
     pub passes : refusalOf (environmentOf journal image records) (table words used) ≡ 0
     pub text-is : text ≡ overwrite text₀ texts
     pub ends-are : ends ≡ overwrite ends₀ marks
+    pub words-long : length words ≡ length words₀
     pub text-long : length text ≡ room
     pub ends-long : length ends ≡ asked
     pub at-is : at ≡ length texts
@@ -119,6 +120,7 @@ module _ (journal image records words₀ : List ℕ) (r₀ : Rewind) (heads₀ n
         passes = p;
         text-is = refl;
         ends-are = refl;
+        words-long = refl;
         text-long = refl;
         ends-long = refl;
         at-is = refl;
@@ -137,32 +139,30 @@ module _ (journal image records words₀ : List ℕ) (r₀ : Rewind) (heads₀ n
     -- what a step asks
     pub going-index : Indexed (table words used) heads nexts × (0 < length heads → slotsIn words ≤ length nexts)
     going-index = (
-      is-index (length heads₀) (table words used) nexts₀ (w .heads-are) (w .nexts-are),
-      λ p. let g = w .wide (omega (arith, many (length heads₀) (table words used) nexts₀ (w .heads-are) (w .nexts-are))) in omega (arith, long (length heads₀) (table words used) nexts₀ (w .heads-are) (w .nexts-are)),
+      index-again (length heads₀) (table words used) nexts₀ (w .heads-are) (w .nexts-are),
+      λ p. let g = w .wide (omega (arith, heads-long (length heads₀) (table words used) nexts₀ (w .heads-are) (w .nexts-are))) in omega (arith, nexts-long (length heads₀) (table words used) nexts₀ (w .heads-are) (w .nexts-are)),
     )
+
+    pub going-heads : length heads ≡ length heads₀
+    going-heads = heads-long (length heads₀) (table words used) nexts₀ (w .heads-are) (w .nexts-are)
+
+    pub going-nexts : length nexts ≡ length nexts₀
+    going-nexts = nexts-long (length heads₀) (table words used) nexts₀ (w .heads-are) (w .nexts-are)
 
     pub going-room : at ≤ length text
     going-room = omega (arith, w .at-room, w .text-long)
+
+    -- the index of another table, made of this one's
+    anew : (u : Table) {h n : List ℕ} → h ≡ headsOf (length heads) u → n ≡ nextsOf (length heads) u nexts → (h ≡ headsOf (length heads₀) u) × (n ≡ nextsOf (length heads₀) u nexts₀)
+    anew u eh en = index-then (length heads₀) (table words used) nexts₀ (w .heads-are) (w .nexts-are) {u = u} {o = answered u} refl eh en
 
     -- a run that stands here and is over
     over : (k : ℕ) → all ≡ stopAt words used position (w .texts) (w .marks) k → {f h n x : List ℕ} → f ≡ words → h ≡ headsOf (length heads) (table words used)
         → n ≡ nextsOf (length heads) (table words used) nexts → x ≡ text → Runs (record { steps = i; refusal = k; rewind = stateOf used position }) f h n ends x
     over k e {f} {h} {n} {x} ef eh en ex =
-        let t = table words used in
-        let steps : i ≡ length (w .marks) = w .i-is in
-        rw e (
-          ap (λ (j : ℕ). record { steps = j; refusal = k; rewind = stateOf used position }) steps,
-          (
-            ef,
-            (
-              heads-anew (length heads₀) t nexts₀ (w .heads-are) (w .nexts-are) t eh,
-              (
-                made-anew (length heads₀) t nexts₀ (w .heads-are) (w .nexts-are) t en,
-                (w .ends-are, ex ∙ w .text-is),
-              ),
-            ),
-          ),
-        )
+        let both = anew (table words used) eh en in
+        rw e
+        (ap (λ (j : ℕ). record { steps = j; refusal = k; rewind = stateOf used position }) (w .i-is), (ef, (both .0, (both .1, (w .ends-are, ex ∙ w .text-is)))))
 
     -- all that were asked for are made
     pub going-all : length ends ≤ i → Runs (record { steps = i; refusal = 0; rewind = stateOf used position }) words heads nexts ends text
@@ -210,7 +210,6 @@ module _ (journal image records words₀ : List ℕ) (r₀ : Rewind) (heads₀ n
         from-made : {to : ℕ} {h n y : List ℕ} → to ≡ at + length more → h ≡ headsOf (length heads) (x .table) → n ≡ nextsOf (length heads) (x .table) nexts
             → y ≡ sets text at more → Going (x .table .words) h n (set ends i to) y (x .table .used) (position + 1) to (i + 1)
         from-made {to} {h} {n} {y} eto eh en ey =
-            let t = table words used in
             let texts = w .texts ++ more in
             let long-texts : length texts ≡ length (w .texts) + length more = length-append (w .texts) more in
             let to-is : to ≡ length texts = omega (arith, w .at-is) in
@@ -223,14 +222,15 @@ module _ (journal image records words₀ : List ℕ) (r₀ : Rewind) (heads₀ n
               passes = made .passes;
               text-is = ey ∙ rw (w .text-is, w .at-is) (written-behind text₀ (w .texts) more fits);
               ends-are = rw (w .ends-are, w .i-is, to-is) (written-behind ends₀ (w .marks) (length texts ∷ []) (omega arith));
+              words-long = made .long ∙ w .words-long;
               text-long = ap length ey ∙ length-sets text at more ∙ w .text-long;
               ends-long = length-set ends i to ∙ w .ends-long;
               at-is = to-is;
               at-room = omega (arith, w .at-is);
               i-is = omega (arith, w .i-is, length-append (w .marks) (length texts ∷ []));
               i-room = omega (arith, w .ends-long);
-              heads-are = heads-anew (length heads₀) t nexts₀ (w .heads-are) (w .nexts-are) (x .table) eh;
-              nexts-are = made-anew (length heads₀) t nexts₀ (w .heads-are) (w .nexts-are) (x .table) en;
+              heads-are = anew (x .table) eh en .0;
+              nexts-are = anew (x .table) eh en .1;
               wide = λ p. omega (arith, w .wide p, made .long);
             }
 

@@ -76,7 +76,7 @@ fn tell(
     text: &mut [u8],
     at: usize,
 ) -> Made
-    requires { ⌜ (used ≤ slotsIn (now forward)) × ((slot < slotsIn (now forward)) × (old_used ≤ slotsIn (now forward))) ⌝ }
+    requires { ⌜ (used ≤ slotsIn (now forward)) × ((slot < slotsIn (now forward)) × («old_used» ≤ slotsIn (now forward))) ⌝ }
     requires { ⌜ Indexed (table (now forward) used) (now heads) (now nexts) × (0 < length (now heads) → slotsIn (now forward) ≤ length (now nexts)) ⌝ }
     requires { ⌜ allInside (lengthsOf (now journal) (now image)) (namesIn (now forward) used) ≡ true ⌝ }
     requires { ⌜ (length (now journal) ≤ domain) × (length (now image) ≤ domain) ⌝ }
