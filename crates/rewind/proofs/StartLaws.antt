@@ -78,7 +78,7 @@ module _ (journal image l : List ℕ) (t : Table) (words : List ℕ) where
           all : adding t (walkedBack journal l) ≡ answered (addAll t (walkedBack journal l))
           all = adding-room t (walkedBack journal l) first-room
 
-          starts : started journal image l t words ≡ answered (record { first = addAll t (walkedBack journal l); forward = copied (addAll t (walkedBack journal l)) words })
+          pub starts : started journal image l t words ≡ answered (record { first = addAll t (walkedBack journal l); forward = copied (addAll t (walkedBack journal l)) words })
           unfolding starting
           starts = tested-passed env t _ e h ∙ rw (back, le-ltb _ _ first-room, le-ltb _ _ forward-room)
 

@@ -68,13 +68,7 @@ fn new_keys(journal: &[u8], records: &[usize], slots: &[u64], used: usize) -> us
 
 // Whether so many slots are enough for those that are used and the new keys. None is counted where they are enough for all
 // records.
-pub fn has_room(
-    journal: &[u8],
-    records: &[usize],
-    slots: &[u64],
-    used: usize,
-    room: usize,
-) -> bool
+pub fn has_room(journal: &[u8], records: &[usize], slots: &[u64], used: usize, room: usize) -> bool
     requires { ⌜ used * stride ≤ length (now slots) ⌝ }
     ensures { λ r. ⌜ r ≡ leb (used + newKeys (known (table (now (slots .entry)) used)) (keysOf (walkedBack (now (journal .entry)) (now (records .entry))))) room ⌝ }
 {

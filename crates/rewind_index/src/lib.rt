@@ -121,7 +121,15 @@ pub fn rewind_run(
     if is_enough(forward.len() / STRIDE, heads, nexts) {
         build(forward, rewind.used, heads, nexts);
         return run(
-            journal, image, records, rewind, forward, heads, nexts, ends, text,
+            journal,
+            image,
+            records,
+            rewind,
+            forward,
+            heads,
+            nexts,
+            ends,
+            text,
         );
     }
     run(

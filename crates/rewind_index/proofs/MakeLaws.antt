@@ -1,0 +1,166 @@
+-- A step of a run by its ways out: the answer, and what the table, its index and the text then are. Assumes nothing.
+use Prim.Native.Nat.{ℕ, _+_, _-_, _*_, _≤_, _<_}
+use mathlib.Core.Path.{_≡_, refl, ap, sym, _∙_}
+use mathlib.Core.List.{List, [], _∷_}
+use mathlib.Core.Bool.{Bool, true, false}
+use native.Mathlib.Omega.{arith}
+use lib.ListN.{length}
+use lib.Seq.{sets}
+use lib.Dec.{ltb}
+use Rattle.walk.specs.Outcome.{Outcome, refused, answered}
+use Rattle.walk.specs.Refusals.{tableFull, textFull, domain}
+use Rattle.entry_table.specs.Names.{lengthsOf, inside, allInside}
+use Rattle.entry_table.specs.Slots.{stride, slotsIn, keyAt, infoAt, putAt, namesIn}
+use Rattle.entry_table.specs.Table.{Table, table, slotFor, Addition}
+use Rattle.entry_table.specs.Storing.{adding, usedAfter, wordsAfter}
+use Rattle.entry_table.specs.declared.EntryKey.{EntryKey}
+use Rattle.entry_table.specs.declared.NamePlace.{NamePlace}
+use Rattle.entry_table.specs.declared.EntryInfo.{EntryInfo}
+use Rattle.entry_table.proofs.AddLaws.{Added, adding-added, added-fits, added-none, added-table, names-added, put-back, slot-full}
+use Rattle.entry_table.proofs.KeptLaws.{add-keeps}
+use Rattle.entry_index.specs.Index.{headsOf, nextsOf, Indexed, headsAfter, nextsAfter}
+use Rattle.entry_index.proofs.SeedLaws.{heads-long, nexts-long, index-again, index-then}
+use Rattle.chain.specs.Settings.{depth}
+use Rattle.path_index.specs.Behind.{entryText, behind, textBehind}
+use Rattle.path_index.specs.declared.Behind.{Behind}
+use Rattle.path_index.specs.declared.Behind.the-variants as put
+use Rattle.rewind.specs.Entries.{forward}
+use Rattle.rewind.specs.Stepping.{Next, next, Step, stepWith}
+use Rattle.rewind.specs.Telling.{recordText, telling}
+use Rattle.rewind.specs.declared.entries.RecordEntry.{RecordEntry}
+use Rattle.rewind_index.specs.Making.{making, madeOf, tableAfter, textAfter}
+use Rattle.rewind_index.specs.declared.steps.Made.{Made}
+use Rattle.rewind_index.specs.declared.steps.Made.the-variants.{To, End, Refused}
+
+-- what a step that comes to o has to leave, from a table t, an index of m heads beside the words of nexts, and a text: its answer, the words of the
+-- table, the heads, the nexts and the text
+abbrev pub Comes : List ℕ → List ℕ → ℕ → ℕ → List ℕ → List ℕ → Outcome (Next Step) → Table → Made → List ℕ → List ℕ → List ℕ → List ℕ → Type 0
+Comes journal image at m nexts text o t r f h n x =
+    (r ≡ madeOf journal image at o)
+    × ((f ≡ tableAfter o t .words)
+    × ((h ≡ headsOf m (tableAfter o t))
+    × ((n ≡ nextsOf m (tableAfter o t) nexts)
+    × (x ≡ textAfter journal image at o text))))
+
+-- the text of a record that the table has
+module _ (journal image : List ℕ) (u : Table) (parent : EntryKey) (name : NamePlace) (text : List ℕ) (at : ℕ) where
+  abbrev step : Step
+  step = stepWith depth parent name u
+
+  abbrev more : List ℕ
+  more = entryText journal image u parent name
+
+  same-text : more ≡ recordText journal image step
+  unfolding entryText recordText
+  same-text = refl
+
+  module _ (m : ℕ) (nexts : List ℕ) (t : Table) {v : Behind} {y : List ℕ} (e : v ≡ behind text at more) (k : y ≡ textBehind text at more) where
+    abbrev Tells : Made → List ℕ → List ℕ → List ℕ → List ℕ → Type 0
+    Tells = Comes journal image at m nexts text (telling journal image u parent name (length text - at)) t
+
+    pub tell-to : {to : ℕ} {h n : List ℕ} → v ≡ put.To to → h ≡ headsOf m u → n ≡ nextsOf m u nexts → Tells (To to (u .used)) (u .words) h n y
+    tell-to {to} {h} {n} g eh en = go (ltb (length text - at) (length more)) refl (sym e ∙ g) k
+      where
+        go : (b : Bool) → ltb (length text - at) (length more) ≡ b → behind text at more ≡ put.To to → y ≡ textBehind text at more → Tells (To to (u .used)) (u .words) h n y
+        go true l f w = let z : _≡_ {A = ℕ} 0 1 = cc in absurd (omega arith)
+        go false l f w =
+            let l′ : ltb (length text - at) (length (recordText journal image step)) ≡ false = rw (← same-text) l in
+            let to-is : at + length more ≡ to = cc in
+            rw l′ (sym (rw (← same-text) (ap (λ (i : ℕ). To i (u .used)) to-is)), (refl, (eh, (en, (rw l at w) ∙ ap (sets text at) same-text))))
+
+    pub tell-full : {f h n : List ℕ} → v ≡ put.Full → f ≡ t .words → h ≡ headsOf m t → n ≡ nextsOf m t nexts → Tells (Refused textFull) f h n y
+    tell-full {f} {h} {n} g ef eh en = go (ltb (length text - at) (length more)) refl (sym e ∙ g) k
+      where
+        go : (b : Bool) → ltb (length text - at) (length more) ≡ b → behind text at more ≡ put.Full → y ≡ textBehind text at more → Tells (Refused textFull) f h n y
+        go true l q w =
+            let l′ : ltb (length text - at) (length (recordText journal image step)) ≡ true = rw (← same-text) l in
+            rw l′ (refl, (ef, (eh, (en, rw l at w))))
+        go false l q w = let z : _≡_ {A = ℕ} 0 1 = cc in absurd (omega arith)
+
+-- a step with the record that is next
+module _ (journal image : List ℕ) (t : Table) (e : RecordEntry) (text : List ℕ) (at : ℕ) (heads nexts : List ℕ) where
+  abbrev Makes : Made → List ℕ → List ℕ → List ℕ → List ℕ → Type 0
+  Makes = Comes journal image at (length heads) nexts text (making journal image t e (length text - at)) t
+
+  module _ (fits : t .used ≤ slotsIn (t .words)) (index : Indexed t heads nexts) where
+    -- nothing is changed where no slot is left
+    full : {k : ℕ} → adding t (forward e ∷ []) ≡ refused k → Makes (Refused k) (t .words) heads nexts text
+    full g = rw g (refl, (refl, (index .0, (index .1, refl))))
+
+    pub make-none : {slot : ℕ} → slot ≡ slotFor t (e .key) → slotsIn (t .words) ≤ slot → Makes (Refused tableFull) (t .words) heads nexts text
+    make-none q h = full (slot-full t (forward e) fits (rw q at h))
+
+    module _ {a : Addition} {o : Outcome ℕ} {s h n : List ℕ} (q : a ≡ forward e) (x : o ≡ usedAfter (adding t (a ∷ [])))
+        (z : s ≡ wordsAfter (adding t (a ∷ [])) (t .words)) (zh : h ≡ headsAfter (adding t (a ∷ [])) heads)
+        (zn : n ≡ nextsAfter (length heads) (adding t (a ∷ [])) nexts) where
+      pub make-refused : {k : ℕ} → o ≡ refused k → Makes (Refused k) s h n text
+      make-refused {k} y =
+          let f : adding t (a ∷ []) ≡ refused k = added-none t a x z y .0 in
+          let eh : h ≡ heads = zh ∙ ap (λ (p : Outcome Table). headsAfter p heads) f in
+          let en : n ≡ nexts = zn ∙ ap (λ (p : Outcome Table). nextsAfter (length heads) p nexts) f in
+          rw (added-none t a x z y .1, eh, en) (full (rw (← q) f))
+
+      module _ {k : ℕ} (y : o ≡ answered k) where
+        goes : adding t (a ∷ []) ≡ answered (table s k)
+        goes = added-table t a x z y
+
+        w : Added t a (table s k)
+        w = adding-added t a goes
+
+        heads-are : h ≡ headsOf (length heads) (table s k)
+        heads-are = zh ∙ ap (λ (p : Outcome Table). headsAfter p heads) goes
+
+        nexts-are : n ≡ nextsOf (length heads) (table s k) nexts
+        nexts-are = zn ∙ ap (λ (p : Outcome Table). nextsAfter (length heads) p nexts) goes
+
+        long-words : length s ≡ length (t .words)
+        long-words = ap (λ (u : Table). length (u .words)) (w .leaves) ∙ add-keeps t a .long
+
+        -- what the telling asks
+        after-fits : k ≤ slotsIn s
+        after-fits = rw (← w .leaves) at (added-fits t a (w .room))
+
+        after-old : t .used ≤ slotsIn s
+        after-old = omega (arith, long-words)
+
+        after-slot : {slot : ℕ} → slot < slotsIn (t .words) → slot < slotsIn s
+        after-slot g = omega (arith, long-words)
+
+        after-index : Indexed (table s k) h n
+        after-index = index-again (length heads) (table s k) nexts heads-are nexts-are
+
+        after-nexts : (0 < length heads → slotsIn (t .words) ≤ length nexts) → 0 < length h → slotsIn s ≤ length n
+        after-nexts g p = let l = g (omega (arith, heads-long (length heads) (table s k) nexts heads-are nexts-are)) in omega (arith, long-words, nexts-long (length heads) (table s k) nexts heads-are nexts-are)
+
+        after-inside : allInside (lengthsOf journal image) (namesIn (t .words) (t .used)) ≡ true → inside (lengthsOf journal image) (e .info .name) ≡ true
+            → allInside (lengthsOf journal image) (namesIn s k) ≡ true
+        after-inside old own =
+            rw (← w .leaves) at (names-added t a (w .room) (lengthsOf journal image) old (rw q own))
+
+        pub make-asks : {slot : ℕ} → slot < slotsIn (t .words) → (0 < length heads → slotsIn (t .words) ≤ length nexts)
+            → allInside (lengthsOf journal image) (namesIn (t .words) (t .used)) ≡ true → (length journal ≤ domain) × (length image ≤ domain)
+            → (inside (lengthsOf journal image) (e .info .name) ≡ true) × (at ≤ length text)
+            → ((k ≤ slotsIn s) × ((slot < slotsIn s) × (t .used ≤ slotsIn s)))
+            × ((Indexed (table s k) h n × (0 < length h → slotsIn s ≤ length n))
+            × ((allInside (lengthsOf journal image) (namesIn s k) ≡ true)
+            × (((length journal ≤ domain) × (length image ≤ domain))
+            × ((inside (lengthsOf journal image) (e .info .name) ≡ true) × (at ≤ length text)))))
+        make-asks g wide old within own = ((after-fits, (after-slot g, after-old)), ((after-index, after-nexts wide), (after-inside old (own .0), (within, own))))
+
+        -- what stood in the slot leads back to the table
+        back : {slot : ℕ} {key : EntryKey} {info : EntryInfo} → slot ≡ slotFor t (e .key) → key ≡ keyAt (t .words) slot → info ≡ infoAt (t .words) slot
+            → table (putAt s slot key info) (t .used) ≡ t
+        back {slot} {key} {info} qs qk qi =
+            let same : putAt s slot key info ≡ t .words = rw (qk, qi) (rw (← w .leaves) at (put-back t a (w .room) (qs ∙ rw q))) in
+            λ i. record { words = same i; used = t .used }
+
+        pub make-told : {slot : ℕ} {key : EntryKey} {info : EntryInfo} → slot ≡ slotFor t (e .key) → key ≡ keyAt (t .words) slot → info ≡ infoAt (t .words) slot
+            → {r : Made} {f′ h′ n′ x′ : List ℕ}
+            → Comes journal image at (length h) n text (telling journal image (table s k) (e .info .parent) (e .info .name) (length text - at)) (table (putAt s slot key info) (t .used)) r f′ h′ n′ x′
+            → Makes r f′ h′ n′ x′
+        make-told qs qk qi c =
+            let o′ = telling journal image (table s k) (e .info .parent) (e .info .name) (length text - at) in
+            let goes′ : adding t (forward e ∷ []) ≡ answered (table s k) = rw (← q) goes in
+            let c′ = rw (back qs qk qi) at c in
+            let both = index-then (length heads) (table s k) nexts heads-are nexts-are {u = tableAfter o′ t} {o = answered (tableAfter o′ t)} refl (c′ .1 .1 .0) (c′ .1 .1 .1 .0) in
+            rw goes′ (c′ .0, (c′ .1 .0, (both .0, (both .1, c′ .1 .1 .1 .1))))

@@ -1,0 +1,41 @@
+-- One step of a run as the code makes it: by what a step with text comes to, what is answered, and what the table and the text then are.
+use Prim.Native.Nat.{ℕ, _+_}
+use mathlib.Core.List.{List}
+use lib.ListN.{length}
+use lib.Seq.{sets}
+use Rattle.walk.specs.Outcome.{Outcome, refused, answered}
+use Rattle.entry_table.specs.Table.{Table}
+use Rattle.chain.specs.Settings.{depth}
+use Rattle.path.specs.Telling.{withText}
+use Rattle.rewind.specs.Stepping.{Next, ended, next, Step, taken}
+use Rattle.rewind.specs.Telling.{recordText, nextText}
+use Rattle.rewind.specs.declared.Rewind.{Rewind}
+use Rattle.rewind.specs.declared.entries.RecordEntry.{RecordEntry}
+use Rattle.rewind_index.specs.declared.steps.Made.{Made}
+use Rattle.rewind_index.specs.declared.steps.Made.the-variants.{To, End, Refused}
+
+-- the state of a rewind by its two numbers
+abbrev pub stateOf : ℕ → ℕ → Rewind
+stateOf used position = record { used = used; position = position }
+
+-- a step with text where the next record is known and the tests have passed: 6, and then 8
+abbrev pub making : List ℕ → List ℕ → Table → RecordEntry → ℕ → Outcome (Next Step)
+making journal image t e room = withText (nextText journal image) room (taken t depth (next e))
+
+-- what is answered of a step whose text begins at a place of the lent text: where it ends, and how many slots are used then
+abbrev pub madeOf : List ℕ → List ℕ → ℕ → Outcome (Next Step) → Made
+madeOf journal image at (refused n) = Refused n
+madeOf journal image at (answered ended) = End
+madeOf journal image at (answered (next x)) = To (at + length (recordText journal image x)) (x .table .used)
+
+-- the forward table after it
+abbrev pub tableAfter : Outcome (Next Step) → Table → Table
+tableAfter (refused n) t = t
+tableAfter (answered ended) t = t
+tableAfter (answered (next x)) t = x .table
+
+-- what the lent text holds after it
+abbrev pub textAfter : List ℕ → List ℕ → ℕ → Outcome (Next Step) → List ℕ → List ℕ
+textAfter journal image at (refused n) text = text
+textAfter journal image at (answered ended) text = text
+textAfter journal image at (answered (next x)) text = sets text at (recordText journal image x)
