@@ -51,7 +51,7 @@ put-requires-2 : tie.Need-put-requires-2
 put-requires-2 c κs = search needs
 
 link-requires : tie.Need-link-requires
-link-requires c κs = (omega (arith, c .before .before .before .before .before .before .before .before .before .before .before .before .before .before .if1 .left), omega (arith, c .before .before .before .before .before .before .if3 .left, c .before .before .before .before .before .before .before .before .before .before .before .before .before .before .before .before .before .before .pre .1 .1 (omega (arith, c .before .before .before .before .before .before .before .before .before .before .before .before .before .before .if1 .left))), last-within _ (probed-last _ _ _ (c .before .before .before .before .before .before .before .before .before .before .probe-key .ensures) (c .before .before .before .before .before .before .before .before .last .given .1)))
+link-requires c κs = (omega (arith, c .before .before .before .before .before .before .before .before .before .before .before .before .before .before .if1 .left), omega (arith, c .before .before .before .before .before .before .if3 .left, c .before .before .before .before .before .before .before .before .before .before .before .before .before .before .before .before .before .before .pre .1 .1 (omega (arith, c .before .before .before .before .before .before .before .before .before .before .before .before .before .before .if1 .left))), omega (arith, last-within _ (probed-last _ _ _ (c .before .before .before .before .before .before .before .before .before .before .probe-key .ensures) (c .before .before .before .before .before .before .before .before .last .given .1))))
 
 add-t26 : tie.Need-add-t26
 add-t26 c = search needs
