@@ -17,7 +17,7 @@ use Rattle.entry_table.specs.Table.{Table}
 use Rattle.entry_table.specs.Storing.{usedAfter, wordsAfter}
 use Rattle.entry_table.specs.Storing.{outcome as storingOutcome}
 use Rattle.entry_table.specs.declared.Stored.{Stored}
-use Rattle.entry_index.specs.Index.{headsLeft, nextsLeft}
+use Rattle.entry_index.specs.Index.{enough, headsLeft, nextsLeft}
 use Rattle.rewind.specs.Starting.{Tables, firstAfter, forwardAfter}
 use Rattle.rewind_index.specs.Running.{Run, runAnswer}
 use Rattle.rewind_index.specs.declared.RewindRun.{RewindRun}
@@ -36,7 +36,7 @@ Seeds k x s t h h′ n n′ l m r =
 
 module _ (k : ℕ) (x : Outcome Table) (s h n l : List ℕ) where
   pub seeds-short : length l < 1 → Seeds k (withRoom 1 (length l) x) s s h h n n l l listFull
-  seeds-short q = let e = room-few x q in rw e (refl, (refl, (chosen _ h, (chosen _ n, refl))))
+  seeds-short q = let e = room-few x q in rw e (refl, (refl, (chosen (enough k h n) h, (chosen (enough k h n) n, refl))))
 
   pub seeds-answered : 1 ≤ length l → (y : Stored) → storingOutcome y ≡ usedAfter x → {t h′ n′ m : List ℕ} {r : ℕ} → t ≡ wordsAfter x s
       → h′ ≡ headsLeft k x h n → n′ ≡ nextsLeft k x h n → Out countWords (storingOutcome y) l m r → Seeds k (withRoom 1 (length l) x) s t h h′ n n′ l m r
@@ -53,7 +53,7 @@ Starts k x s t f g h h′ n n′ l m r =
 
 module _ (k : ℕ) (x : Outcome Tables) (s f h n l : List ℕ) where
   pub starts-short : length l < 2 → Starts k (withRoom 2 (length l) x) s s f f h h n n l l listFull
-  starts-short q = let e = room-few x q in rw e (refl, (refl, (refl, (chosen _ h, (chosen _ n, refl)))))
+  starts-short q = let e = room-few x q in rw e (refl, (refl, (refl, (chosen (enough k h n) h, (chosen (enough k h n) n, refl)))))
 
   pub starts-answered : 2 ≤ length l → {t g h′ n′ m : List ℕ} {r : ℕ} → t ≡ firstAfter x s → g ≡ forwardAfter x f → h′ ≡ headsLeft k (firstOf x) h n
       → n′ ≡ nextsLeft k (firstOf x) h n → Out startWords x l m r → Starts k (withRoom 2 (length l) x) s t f g h h′ n n′ l m r

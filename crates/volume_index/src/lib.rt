@@ -85,7 +85,14 @@ pub extern "C" fn rewind_start_indexed(
     }
     put_start(
         rewind_index::rewind_start_indexed(
-            journal, image, records, slots, used, forward, heads, nexts,
+            journal,
+            image,
+            records,
+            slots,
+            used,
+            forward,
+            heads,
+            nexts,
         ),
         out,
     )
