@@ -7,7 +7,8 @@ use Rattle.rewind_index.proofs.rewind_run.Tie as tie
 
 returns : tie.Need-returns
 returns c =
-    let s = c .before .before .before .before .before .before .before .before .before .args in
+    let root = c .before .before .before .before .before .before .before .before .before in
+    let s = root .args in
     run-zero (s .journal .now) (s .image .now) (s .records .now) (s .forward .now) (s .rewind) (s .heads .now) (s .nexts .now) (s .ends .now) (s .text .now) (c .if1 .taken)
 
 refusal-requires : tie.Need-refusal-requires
@@ -18,7 +19,8 @@ same-length c = search needs
 
 returns-2 : tie.Need-returns-2
 returns-2 c =
-    let s = c .before .before .before .before .before .before .before .before .before .before .before .before .args in
+    let root = c .before .before .before .before .before .before .before .before .before .before .before .before in
+    let s = root .args in
     run-refused (s .journal .now) (s .image .now) (s .records .now) (s .forward .now) (s .rewind) (s .heads .now) (s .nexts .now) (s .ends .now) (s .text .now) (c .before .refusal .ensures) (omega (arith, c .before .before .before .if1 .left)) (c .if2 .taken)
 
 is-enough-requires : tie.Need-is-enough-requires
@@ -26,12 +28,14 @@ is-enough-requires c κs = search needs
 
 build-requires : tie.Need-build-requires
 build-requires c κs =
-    let s = c .before .before .before .before .before .before .before .before .before .before .before .before .before .before .before .before .before .before .before .args in
+    let root = c .before .before .before .before .before .before .before .before .before .before .before .before .before .before .before .before .before .before .before in
+    let s = root .args in
     build-asks (s .journal .now) (s .image .now) (s .records .now) (s .forward .now) (s .rewind) (s .heads .now) (s .nexts .now) (s .ends .now) (s .text .now) (c .before .before .before .before .before .before .before .before .refusal .ensures) (omega (arith, c .before .before .before .before .before .before .before .before .before .before .if1 .left)) (c .before .before .before .before .before .before .before .if2 .left) (c .before .before .before .before .is-enough .ensures) (c .before .before .before .if3 .taken)
 
 run-requires : tie.Need-run-requires
 run-requires c κs =
-    let s = c .before .before .before .before .before .before .before .before .before .before .before .before .before .before .before .before .before .before .before .before .before .before .before .before .before .before .before .before .before .args in
+    let root = c .before .before .before .before .before .before .before .before .before .before .before .before .before .before .before .before .before .before .before .before .before .before .before .before .before .before .before .before .before in
+    let s = root .args in
     run-asks (s .journal .now) (s .image .now) (s .records .now) (s .forward .now) (s .rewind) (s .heads .now) (s .nexts .now) (s .ends .now) (s .text .now) (c .before .before .before .before .before .before .before .before .before .before .before .before .before .before .before .before .before .before .refusal .ensures) (omega (arith, c .before .before .before .before .before .before .before .before .before .before .before .before .before .before .before .before .before .before .before .before .if1 .left)) (c .before .before .before .before .before .before .before .before .before .before .before .before .before .before .before .before .before .if2 .left) (c .before .before .before .before .before .before .before .before .before .before .before .before .before .before .is-enough .ensures) (c .before .before .before .before .before .before .before .before .before .before .before .before .before .if3 .taken) (c .before .before .before .before .before .before .before .before .before .build .ensures .0) (c .before .before .before .before .before .before .before .before .before .build .ensures .1)
 
 same-length-2 : tie.Need-same-length-2
@@ -51,7 +55,8 @@ same-length-6 c = search needs
 
 returns-3 : tie.Need-returns-3
 returns-3 c =
-    let s = c .before .before .before .before .before .before .before .before .before .before .before .before .before .before .before .before .before .before .before .before .before .before .before .before .before .before .before .before .before .before .before .before .before .before .before .before .before .before .before .before .args in
+    let root = c .before .before .before .before .before .before .before .before .before .before .before .before .before .before .before .before .before .before .before .before .before .before .before .before .before .before .before .before .before .before .before .before .before .before .before .before .before .before .before .before in
+    let s = root .args in
     run-built (s .journal .now) (s .image .now) (s .records .now) (s .forward .now) (s .rewind) (s .heads .now) (s .nexts .now) (s .ends .now) (s .text .now) (c .before .before .before .before .before .before .before .before .before .before .before .before .before .before .before .before .before .before .before .before .before .before .before .before .before .before .before .before .before .refusal .ensures) (omega (arith, c .before .before .before .before .before .before .before .before .before .before .before .before .before .before .before .before .before .before .before .before .before .before .before .before .before .before .before .before .before .before .before .if1 .left)) (c .before .before .before .before .before .before .before .before .before .before .before .before .before .before .before .before .before .before .before .before .before .before .before .before .before .before .before .before .if2 .left) (c .before .before .before .before .before .before .before .before .before .before .before .before .before .before .before .before .before .before .before .before .before .before .before .before .before .is-enough .ensures) (c .before .before .before .before .before .before .before .before .before .before .before .before .before .before .before .before .before .before .before .before .before .before .before .before .if3 .taken) (c .before .before .before .before .before .before .before .before .before .before .before .before .before .before .before .before .before .before .before .before .build .ensures .0) (c .before .before .before .before .before .before .before .before .before .before .before .before .before .before .before .before .before .before .before .before .build .ensures .1) (c .before .before .before .before .before .before .before .before .before .before .run .ensures)
 
 slice-relend-prefix-run : tie.Need-slice-relend-prefix-run
@@ -62,7 +67,8 @@ slice-aggregate-run c = search needs
 
 run-requires-2 : tie.Need-run-requires-2
 run-requires-2 c κs =
-    let s = c .before .before .before .before .before .before .before .before .before .before .before .before .before .before .before .before .before .before .before .before .before .args in
+    let root = c .before .before .before .before .before .before .before .before .before .before .before .before .before .before .before .before .before .before .before .before .before in
+    let s = root .args in
     plain-asks (s .journal .now) (s .image .now) (s .records .now) (s .forward .now) (s .rewind) (s .heads .now) (s .nexts .now) (s .ends .now) (s .text .now) (c .before .before .before .before .before .before .before .before .before .before .refusal .ensures) (omega (arith, c .before .before .before .before .before .before .before .before .before .before .before .before .if1 .left)) (c .before .before .before .before .before .before .before .before .before .if2 .left) (c .before .before .before .before .before .before .is-enough .ensures) (c .before .before .before .before .before .if3 .left)
 
 same-length-7 : tie.Need-same-length-7
@@ -82,7 +88,8 @@ same-length-11 c = search needs
 
 returns-4 : tie.Need-returns-4
 returns-4 c =
-    let s = c .before .before .before .before .before .before .before .before .before .before .before .before .before .before .before .before .before .before .before .before .before .before .before .before .before .before .before .before .before .before .before .before .args in
+    let root = c .before .before .before .before .before .before .before .before .before .before .before .before .before .before .before .before .before .before .before .before .before .before .before .before .before .before .before .before .before .before .before .before in
+    let s = root .args in
     run-plain (s .journal .now) (s .image .now) (s .records .now) (s .forward .now) (s .rewind) (s .heads .now) (s .nexts .now) (s .ends .now) (s .text .now) (c .before .before .before .before .before .before .before .before .before .before .before .before .before .before .before .before .before .before .before .before .before .refusal .ensures) (omega (arith, c .before .before .before .before .before .before .before .before .before .before .before .before .before .before .before .before .before .before .before .before .before .before .before .if1 .left)) (c .before .before .before .before .before .before .before .before .before .before .before .before .before .before .before .before .before .before .before .before .if2 .left) (c .before .before .before .before .before .before .before .before .before .before .before .before .before .before .before .before .before .is-enough .ensures) (c .before .before .before .before .before .before .before .before .before .before .before .before .before .before .before .before .if3 .left) (c .before .before .before .before .before .before .before .before .before .before .run2 .ensures)
 
 pub rewind-run-spec : {M : Type 1} → statement M

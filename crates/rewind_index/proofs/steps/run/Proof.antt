@@ -1,6 +1,5 @@
 -- The invariant: the steps that are left, from where the loop stands, lead to the whole run.
 use Prim.Native.Nat.{_-_}
-use mathlib.Core.Path.{sym, _∙_}
 use native.Mathlib.Omega.{arith}
 use lib.ListN.{length}
 use Rattle.rewind_index.specs.Making.{stateOf}
@@ -17,12 +16,14 @@ abbrev μ-loop : tie.MeasureT-loop
 
 loop-holds : tie.Need-loop-holds Inv-loop μ-loop
 loop-holds c =
-    let s = c .before .before .before .before .before .before .before .before .args in
-    going-start (s .journal .now) (s .image .now) (s .records .now) (s .forward .now) (s .rewind) (s .heads .now) (s .nexts .now) (s .ends .now) (s .text .now) (c .before .before .before .before .before .before .before .before .pre .0) (c .before .before .before .before .before .before .before .before .pre .1)
+    let root = c .before .before .before .before .before .before .before .before in
+    let s = root .args in
+    going-start (s .journal .now) (s .image .now) (s .records .now) (s .forward .now) (s .rewind) (s .heads .now) (s .nexts .now) (s .ends .now) (s .text .now) (root .pre .0) (root .pre .1)
 
 run-step-requires : tie.Need-run-step-requires Inv-loop μ-loop
 run-step-requires c κs =
-    let s = c .before .before .before .before .before .before .before .before .before .before .before .before .before .before .args in
+    let root = c .before .before .before .before .before .before .before .before .before .before .before .before .before .before in
+    let s = root .args in
     (c .before .before .before .before .before .loop .inv .passes, (going-index (s .journal .now) (s .image .now) (s .records .now) (s .forward .now) (s .rewind) (s .heads .now) (s .nexts .now) (s .ends .now) (s .text .now) (c .before .before .before .before .before .loop .inv), going-room (s .journal .now) (s .image .now) (s .records .now) (s .forward .now) (s .rewind) (s .heads .now) (s .nexts .now) (s .ends .now) (s .text .now) (c .before .before .before .before .before .loop .inv)))
 
 enum-known-to : tie.Need-enum-known-to Inv-loop μ-loop
@@ -36,8 +37,9 @@ slice-write-ends c = search needs
 
 add-position : tie.Need-add-position Inv-loop μ-loop
 add-position c =
-    let s = c .before .before .before .before .before .before .before .before .before .before .before .before .before .before .before .before .before .before .before .before .before .before .before .before .before .before .args in
-    omega (arith, going-near (s .journal .now) (s .image .now) (s .records .now) (s .forward .now) (s .rewind) (s .heads .now) (s .nexts .now) (s .ends .now) (s .text .now) (c .before .before .before .before .before .before .before .before .before .before .before .before .before .before .before .before .before .loop .inv) (c .before .before .before .before .before .before .before .before .before .before .before .before .before .before .before .before .loop-test .taken) (sym (c .before .to .given .1) ∙ c .before .before .before .before .before .before .before .before .before .before .before .run-step .ensures .0), c .before .before .before .before .before .before .before .before .before .before .before .before .before .before .before .before .before .before .before .before .before .before .before .before .before .before .good)
+    let root = c .before .before .before .before .before .before .before .before .before .before .before .before .before .before .before .before .before .before .before .before .before .before .before .before .before .before in
+    let s = root .args in
+    omega (arith, going-near (s .journal .now) (s .image .now) (s .records .now) (s .forward .now) (s .rewind) (s .heads .now) (s .nexts .now) (s .ends .now) (s .text .now) (c .before .before .before .before .before .before .before .before .before .before .before .before .before .before .before .before .before .loop .inv) (c .before .before .before .before .before .before .before .before .before .before .before .before .before .before .before .before .loop-test .taken) (c .before .to .given .1) (c .before .before .before .before .before .before .before .before .before .before .before .run-step .ensures .0), root .good)
 
 add-i : tie.Need-add-i Inv-loop μ-loop
 add-i c = omega (arith, c .before .before .before .before .before .before .before .before .before .before .before .before .before .before .before .before .before .before .before .before .before .before .before .before .before .before .good)
@@ -47,8 +49,9 @@ loop-less c = omega (arith, c .before .before .before .before .before .before .b
 
 loop-again : tie.Need-loop-again Inv-loop μ-loop
 loop-again c =
-    let s = c .before .before .before .before .before .before .before .before .before .before .before .before .before .before .before .before .before .before .before .before .before .before .before .before .before .before .args in
-    going-made (s .journal .now) (s .image .now) (s .records .now) (s .forward .now) (s .rewind) (s .heads .now) (s .nexts .now) (s .ends .now) (s .text .now) (c .before .before .before .before .before .before .before .before .before .before .before .before .before .before .before .before .before .loop .inv) (c .before .before .before .before .before .before .before .before .before .before .before .before .before .before .before .before .loop-test .taken) (sym (c .before .to .given .1) ∙ c .before .before .before .before .before .before .before .before .before .before .before .run-step .ensures .0, c .before .before .before .before .before .before .before .before .before .before .before .run-step .ensures .1)
+    let root = c .before .before .before .before .before .before .before .before .before .before .before .before .before .before .before .before .before .before .before .before .before .before .before .before .before .before in
+    let s = root .args in
+    going-made (s .journal .now) (s .image .now) (s .records .now) (s .forward .now) (s .rewind) (s .heads .now) (s .nexts .now) (s .ends .now) (s .text .now) (c .before .before .before .before .before .before .before .before .before .before .before .before .before .before .before .before .before .loop .inv) (c .before .before .before .before .before .before .before .before .before .before .before .before .before .before .before .before .loop-test .taken) (c .before .to .given .1) (c .before .before .before .before .before .before .before .before .before .before .before .run-step .ensures)
 
 enum-told : tie.Need-enum-told Inv-loop μ-loop
 enum-told c = search needs
@@ -58,12 +61,14 @@ same-length c = omega (arith, c .before .before .before .before .before .before 
 
 same-length-2 : tie.Need-same-length-2 Inv-loop μ-loop
 same-length-2 c =
-    let s = c .before .before .before .before .before .before .before .before .before .before .before .before .before .before .before .before .before .before .before .before .before .before .before .before .before .args in
+    let root = c .before .before .before .before .before .before .before .before .before .before .before .before .before .before .before .before .before .before .before .before .before .before .before .before .before in
+    let s = root .args in
     omega (arith, going-heads (s .journal .now) (s .image .now) (s .records .now) (s .forward .now) (s .rewind) (s .heads .now) (s .nexts .now) (s .ends .now) (s .text .now) (c .before .before .before .before .before .before .before .before .before .before .before .before .before .before .before .before .loop .inv))
 
 same-length-3 : tie.Need-same-length-3 Inv-loop μ-loop
 same-length-3 c =
-    let s = c .before .before .before .before .before .before .before .before .before .before .before .before .before .before .before .before .before .before .before .before .before .before .before .before .before .args in
+    let root = c .before .before .before .before .before .before .before .before .before .before .before .before .before .before .before .before .before .before .before .before .before .before .before .before .before in
+    let s = root .args in
     omega (arith, going-nexts (s .journal .now) (s .image .now) (s .records .now) (s .forward .now) (s .rewind) (s .heads .now) (s .nexts .now) (s .ends .now) (s .text .now) (c .before .before .before .before .before .before .before .before .before .before .before .before .before .before .before .before .loop .inv))
 
 same-length-4 : tie.Need-same-length-4 Inv-loop μ-loop
@@ -74,8 +79,9 @@ same-length-5 c = omega (arith, c .before .before .before .before .before .befor
 
 returns : tie.Need-returns Inv-loop μ-loop
 returns c =
-    let s = c .before .before .before .before .before .before .before .before .before .before .before .before .before .before .before .before .before .before .before .before .before .before .before .before .before .args in
-    going-end (s .journal .now) (s .image .now) (s .records .now) (s .forward .now) (s .rewind) (s .heads .now) (s .nexts .now) (s .ends .now) (s .text .now) (c .before .before .before .before .before .before .before .before .before .before .before .before .before .before .before .before .loop .inv) (c .before .before .before .before .before .before .before .before .before .before .before .before .before .before .before .loop-test .taken) (sym (c .enum-told .given .1) ∙ c .before .before .before .before .before .before .before .before .before .before .run-step .ensures .0, c .before .before .before .before .before .before .before .before .before .before .run-step .ensures .1)
+    let root = c .before .before .before .before .before .before .before .before .before .before .before .before .before .before .before .before .before .before .before .before .before .before .before .before .before in
+    let s = root .args in
+    going-end (s .journal .now) (s .image .now) (s .records .now) (s .forward .now) (s .rewind) (s .heads .now) (s .nexts .now) (s .ends .now) (s .text .now) (c .before .before .before .before .before .before .before .before .before .before .before .before .before .before .before .before .loop .inv) (c .before .before .before .before .before .before .before .before .before .before .before .before .before .before .before .loop-test .taken) (c .enum-told .given .1) (c .before .before .before .before .before .before .before .before .before .before .run-step .ensures)
 
 enum-known-n : tie.Need-enum-known-n Inv-loop μ-loop
 enum-known-n c = search needs
@@ -85,12 +91,14 @@ same-length-6 c = omega (arith, c .before .before .before .before .before .befor
 
 same-length-7 : tie.Need-same-length-7 Inv-loop μ-loop
 same-length-7 c =
-    let s = c .before .before .before .before .before .before .before .before .before .before .before .before .before .before .before .before .before .before .before .before .before .before .before .before .before .before .args in
+    let root = c .before .before .before .before .before .before .before .before .before .before .before .before .before .before .before .before .before .before .before .before .before .before .before .before .before .before in
+    let s = root .args in
     omega (arith, going-heads (s .journal .now) (s .image .now) (s .records .now) (s .forward .now) (s .rewind) (s .heads .now) (s .nexts .now) (s .ends .now) (s .text .now) (c .before .before .before .before .before .before .before .before .before .before .before .before .before .before .before .before .before .loop .inv))
 
 same-length-8 : tie.Need-same-length-8 Inv-loop μ-loop
 same-length-8 c =
-    let s = c .before .before .before .before .before .before .before .before .before .before .before .before .before .before .before .before .before .before .before .before .before .before .before .before .before .before .args in
+    let root = c .before .before .before .before .before .before .before .before .before .before .before .before .before .before .before .before .before .before .before .before .before .before .before .before .before .before in
+    let s = root .args in
     omega (arith, going-nexts (s .journal .now) (s .image .now) (s .records .now) (s .forward .now) (s .rewind) (s .heads .now) (s .nexts .now) (s .ends .now) (s .text .now) (c .before .before .before .before .before .before .before .before .before .before .before .before .before .before .before .before .before .loop .inv))
 
 same-length-9 : tie.Need-same-length-9 Inv-loop μ-loop
@@ -101,20 +109,23 @@ same-length-10 c = omega (arith, c .before .before .before .before .before .befo
 
 returns-2 : tie.Need-returns-2 Inv-loop μ-loop
 returns-2 c =
-    let s = c .before .before .before .before .before .before .before .before .before .before .before .before .before .before .before .before .before .before .before .before .before .before .before .before .before .before .args in
-    going-refused (s .journal .now) (s .image .now) (s .records .now) (s .forward .now) (s .rewind) (s .heads .now) (s .nexts .now) (s .ends .now) (s .text .now) (c .before .before .before .before .before .before .before .before .before .before .before .before .before .before .before .before .before .loop .inv) (c .before .before .before .before .before .before .before .before .before .before .before .before .before .before .before .before .loop-test .taken) (sym (c .before .n .given .1) ∙ c .before .before .before .before .before .before .before .before .before .before .before .run-step .ensures .0, c .before .before .before .before .before .before .before .before .before .before .before .run-step .ensures .1)
+    let root = c .before .before .before .before .before .before .before .before .before .before .before .before .before .before .before .before .before .before .before .before .before .before .before .before .before .before in
+    let s = root .args in
+    going-refused (s .journal .now) (s .image .now) (s .records .now) (s .forward .now) (s .rewind) (s .heads .now) (s .nexts .now) (s .ends .now) (s .text .now) (c .before .before .before .before .before .before .before .before .before .before .before .before .before .before .before .before .before .loop .inv) (c .before .before .before .before .before .before .before .before .before .before .before .before .before .before .before .before .loop-test .taken) (c .before .n .given .1) (c .before .before .before .before .before .before .before .before .before .before .before .run-step .ensures)
 
 same-length-11 : tie.Need-same-length-11 Inv-loop μ-loop
 same-length-11 c = omega (arith, c .before .loop .inv .words-long)
 
 same-length-12 : tie.Need-same-length-12 Inv-loop μ-loop
 same-length-12 c =
-    let s = c .before .before .before .before .before .before .before .before .before .before .args in
+    let root = c .before .before .before .before .before .before .before .before .before .before in
+    let s = root .args in
     omega (arith, going-heads (s .journal .now) (s .image .now) (s .records .now) (s .forward .now) (s .rewind) (s .heads .now) (s .nexts .now) (s .ends .now) (s .text .now) (c .before .loop .inv))
 
 same-length-13 : tie.Need-same-length-13 Inv-loop μ-loop
 same-length-13 c =
-    let s = c .before .before .before .before .before .before .before .before .before .before .args in
+    let root = c .before .before .before .before .before .before .before .before .before .before in
+    let s = root .args in
     omega (arith, going-nexts (s .journal .now) (s .image .now) (s .records .now) (s .forward .now) (s .rewind) (s .heads .now) (s .nexts .now) (s .ends .now) (s .text .now) (c .before .loop .inv))
 
 same-length-14 : tie.Need-same-length-14 Inv-loop μ-loop
@@ -125,7 +136,8 @@ same-length-15 c = omega (arith, c .before .loop .inv .text-long)
 
 returns-3 : tie.Need-returns-3 Inv-loop μ-loop
 returns-3 c =
-    let s = c .before .before .before .before .before .before .before .before .before .before .args in
+    let root = c .before .before .before .before .before .before .before .before .before .before in
+    let s = root .args in
     going-all (s .journal .now) (s .image .now) (s .records .now) (s .forward .now) (s .rewind) (s .heads .now) (s .nexts .now) (s .ends .now) (s .text .now) (c .before .loop .inv) (c .loop-test .left)
 
 pub run-spec : {M : Type 1} → statement M

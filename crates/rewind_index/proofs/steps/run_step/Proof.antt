@@ -7,8 +7,9 @@ use Rattle.rewind_index.proofs.steps.run_step.Tie as tie
 
 returns : tie.Need-returns
 returns c =
-    let s = c .before .before .before .before .before .before .before .before .args in
-    step-end (s .journal .now) (s .image .now) (s .records .now) (s .forward .now) (s .used) (s .position) (c .before .before .before .before .before .before .before .before .pre .0) (s .at) (s .heads .now) (s .nexts .now) (s .text .now) (c .before .before .before .before .before .before .before .before .pre .1 .0 .0) (c .if1 .taken)
+    let root = c .before .before .before .before .before .before .before .before in
+    let s = root .args in
+    step-end (s .journal .now) (s .image .now) (s .records .now) (s .forward .now) (s .used) (s .position) (root .pre .0) (s .at) (s .heads .now) (s .nexts .now) (s .text .now) (root .pre .1 .0 .0) (c .if1 .taken)
 
 mul-entry-at : tie.Need-mul-entry-at
 mul-entry-at c = search needs
@@ -24,8 +25,9 @@ entry-at-requires c κs = search needs
 
 make-step-requires : tie.Need-make-step-requires
 make-step-requires c κs =
-    let s = c .before .before .before .before .before .before .before .before .before .before .before .before .before .before .args in
-    let p = tests (s .journal .now) (s .image .now) (s .records .now) (s .forward .now) (s .used) (s .position) (c .before .before .before .before .before .before .before .before .before .before .before .before .before .before .pre .0) in (p .fits, (c .before .before .before .before .before .before .before .before .before .before .before .before .before .before .pre .1 .0, (p .places, ((p .journal, p .image), (own-inside (s .journal .now) (s .image .now) (s .records .now) (s .forward .now) (s .used) (s .position) (c .before .before .before .before .before .before .before .before .before .before .before .before .before .before .pre .0) (c .before .before .before .before .before .before .if1 .left) (c .before .before .before .before .entry-at .ensures), c .before .before .before .before .before .before .before .before .before .before .before .before .before .before .pre .1 .1)))))
+    let root = c .before .before .before .before .before .before .before .before .before .before .before .before .before .before in
+    let s = root .args in
+    let p = tests (s .journal .now) (s .image .now) (s .records .now) (s .forward .now) (s .used) (s .position) (root .pre .0) in (p .fits, (root .pre .1 .0, (p .places, ((p .journal, p .image), (own-inside (s .journal .now) (s .image .now) (s .records .now) (s .forward .now) (s .used) (s .position) (root .pre .0) (c .before .before .before .before .before .before .if1 .left) (c .before .before .before .before .entry-at .ensures), root .pre .1 .1)))))
 
 same-length : tie.Need-same-length
 same-length c = search needs
@@ -41,8 +43,9 @@ same-length-4 c = search needs
 
 returns-2 : tie.Need-returns-2
 returns-2 c =
-    let s = c .before .before .before .before .before .before .before .before .before .before .before .before .before .before .before .before .before .before .before .before .before .before .before .args in
-    step-next (s .journal .now) (s .image .now) (s .records .now) (s .forward .now) (s .used) (s .position) (c .before .before .before .before .before .before .before .before .before .before .before .before .before .before .before .before .before .before .before .before .before .before .before .pre .0) (c .before .before .before .before .before .before .before .before .before .before .before .before .before .before .before .if1 .left) (c .before .before .before .before .before .before .before .before .before .before .before .before .before .entry-at .ensures) (s .at) (s .heads .now) (s .nexts .now) (s .text .now) (c .before .before .before .before .before .before .before .before .make-step .ensures)
+    let root = c .before .before .before .before .before .before .before .before .before .before .before .before .before .before .before .before .before .before .before .before .before .before .before in
+    let s = root .args in
+    step-next (s .journal .now) (s .image .now) (s .records .now) (s .forward .now) (s .used) (s .position) (root .pre .0) (c .before .before .before .before .before .before .before .before .before .before .before .before .before .before .before .if1 .left) (c .before .before .before .before .before .before .before .before .before .before .before .before .before .entry-at .ensures) (s .at) (s .heads .now) (s .nexts .now) (s .text .now) (c .before .before .before .before .before .before .before .before .make-step .ensures)
 
 pub run-step-spec : {M : Type 1} → statement M
 run-step-spec =
