@@ -190,14 +190,20 @@ module _ (journal image records words₀ : List ℕ) (r₀ : Rewind) (heads₀ n
       turned : {q : Outcome (Next Step)} → o ≡ q → all ≡ onward (running journal image records room rest) journal image now q
       turned e = sym turns ∙ ap (onward (running journal image records room rest) journal image now) e
 
-      pub going-end : {f h n x : List ℕ} → Comes journal image at (length heads) nexts text o (table words used) End f h n x
+      -- by what the step answers
+      pub going-end : {a : Made} {f h n x : List ℕ} → a ≡ End → Comes journal image at (length heads) nexts text o (table words used) a f h n x
           → Runs (record { steps = i; refusal = 0; rewind = stateOf used position }) f h n ends x
-      going-end c = let e : o ≡ answered ended = ended-of journal image at o (c .0) in let d = rw e at c in over 0 (turned e) (d .1 .0) (d .1 .1 .0) (d .1 .1 .1 .0) (d .1 .1 .1 .1)
+      going-end g c =
+          let e : o ≡ answered ended = ended-of journal image at o (sym g ∙ c .0) in
+          let d = rw e at c in
+          over 0 (turned e) (d .1 .0) (d .1 .1 .0) (d .1 .1 .1 .0) (d .1 .1 .1 .1)
 
-      pub going-refused : {k : ℕ} {f h n x : List ℕ} → Comes journal image at (length heads) nexts text o (table words used) (Refused k) f h n x
+      pub going-refused : {a : Made} {k : ℕ} {f h n x : List ℕ} → a ≡ Refused k → Comes journal image at (length heads) nexts text o (table words used) a f h n x
           → Runs (record { steps = i; refusal = k; rewind = stateOf used position }) f h n ends x
-      going-refused {k} c =
-          let e : o ≡ refused k = refused-of journal image at o (c .0) in let d = rw e at c in over k (turned e) (d .1 .0) (d .1 .1 .0) (d .1 .1 .1 .0) (d .1 .1 .1 .1)
+      going-refused {k = k} g c =
+          let e : o ≡ refused k = refused-of journal image at o (sym g ∙ c .0) in
+          let d = rw e at c in
+          over k (turned e) (d .1 .0) (d .1 .1 .0) (d .1 .1 .1 .0) (d .1 .1 .1 .1)
 
       -- a step that is made leads on
       module _ {x : Step} (e : o ≡ answered (next x)) where
@@ -234,11 +240,12 @@ module _ (journal image records words₀ : List ℕ) (r₀ : Rewind) (heads₀ n
               wide = λ p. omega (arith, w .wide p, made .long);
             }
 
-      pub going-made : {to k : ℕ} {f h n y : List ℕ} → Comes journal image at (length heads) nexts text o (table words used) (To to k) f h n y
+      pub going-made : {a : Made} {to k : ℕ} {f h n y : List ℕ} → a ≡ To to k → Comes journal image at (length heads) nexts text o (table words used) a f h n y
           → Going f h n (set ends i to) y k (position + 1) to (i + 1)
-      going-made c =
-          next-of journal image at o (c .0) (λ x e eto ek. let d = rw e at c in rw (d .1 .0, ek) (from-made e eto (d .1 .1 .0) (d .1 .1 .1 .0) (d .1 .1 .1 .1)))
+      going-made g c =
+          next-of journal image at o (sym g ∙ c .0)
+          (λ x e eto ek. let d = rw e at c in rw (d .1 .0, ek) (from-made e eto (d .1 .1 .0) (d .1 .1 .1 .0) (d .1 .1 .1 .1)))
 
       -- the position is below the records
-      pub going-near : {to k : ℕ} → To to k ≡ madeOf journal image at o → position < recordsIn records
-      going-near q = next-of journal image at o q (λ x e eto ek. made e .near)
+      pub going-near : {a : Made} {to k : ℕ} → a ≡ To to k → a ≡ madeOf journal image at o → position < recordsIn records
+      going-near g q = next-of journal image at o (sym g ∙ q) (λ x e eto ek. made e .near)

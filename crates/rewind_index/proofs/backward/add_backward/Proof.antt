@@ -20,7 +20,9 @@ abbrev μ-loop : tie.MeasureT-loop
 μ-loop journal records slots₀ used heads₀ nexts₀ count now-used₀ i₀ slots heads nexts now-used i = count - i
 
 loop-holds : tie.Need-loop-holds Inv-loop μ-loop
-loop-holds c = record { made = rows-start _ _ _ (c .before .before .before .before .before .pre .0); heads-kept = c .before .before .before .before .before .pre .1 .0 .0; nexts-kept = c .before .before .before .before .before .pre .1 .0 .1 }
+loop-holds c =
+    let root = c .before .before .before .before .before in
+    record { made = rows-start _ _ _ (root .pre .0); heads-kept = root .pre .1 .0 .0; nexts-kept = root .pre .1 .0 .1 }
 
 entry-from-last-requires : tie.Need-entry-from-last-requires Inv-loop μ-loop
 entry-from-last-requires c κs = omega arith

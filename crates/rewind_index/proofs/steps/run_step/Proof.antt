@@ -6,7 +6,10 @@ use Rattle.rewind_index.proofs.steps.run_step.Statement.{statement}
 use Rattle.rewind_index.proofs.steps.run_step.Tie as tie
 
 returns : tie.Need-returns
-returns c = step-end (c .before .before .before .before .before .before .before .before .args .journal .now) (c .before .before .before .before .before .before .before .before .args .image .now) (c .before .before .before .before .before .before .before .before .args .records .now) (c .before .before .before .before .before .before .before .before .args .forward .now) (c .before .before .before .before .before .before .before .before .args .used) (c .before .before .before .before .before .before .before .before .args .position) (c .before .before .before .before .before .before .before .before .pre .0) (c .before .before .before .before .before .before .before .before .args .at) (c .before .before .before .before .before .before .before .before .args .heads .now) (c .before .before .before .before .before .before .before .before .args .nexts .now) (c .before .before .before .before .before .before .before .before .args .text .now) (c .before .before .before .before .before .before .before .before .pre .1 .0 .0) (c .if1 .taken)
+returns c =
+    let root = c .before .before .before .before .before .before .before .before in
+    let s = root .args in
+    step-end (s .journal .now) (s .image .now) (s .records .now) (s .forward .now) (s .used) (s .position) (root .pre .0) (s .at) (s .heads .now) (s .nexts .now) (s .text .now) (root .pre .1 .0 .0) (c .if1 .taken)
 
 mul-entry-at : tie.Need-mul-entry-at
 mul-entry-at c = search needs
@@ -21,7 +24,10 @@ entry-at-requires : tie.Need-entry-at-requires
 entry-at-requires c κs = search needs
 
 make-step-requires : tie.Need-make-step-requires
-make-step-requires c κs = let p = tests (c .before .before .before .before .before .before .before .before .before .before .before .before .before .before .args .journal .now) (c .before .before .before .before .before .before .before .before .before .before .before .before .before .before .args .image .now) (c .before .before .before .before .before .before .before .before .before .before .before .before .before .before .args .records .now) (c .before .before .before .before .before .before .before .before .before .before .before .before .before .before .args .forward .now) (c .before .before .before .before .before .before .before .before .before .before .before .before .before .before .args .used) (c .before .before .before .before .before .before .before .before .before .before .before .before .before .before .args .position) (c .before .before .before .before .before .before .before .before .before .before .before .before .before .before .pre .0) in (p .fits, (c .before .before .before .before .before .before .before .before .before .before .before .before .before .before .pre .1 .0, (p .places, ((p .journal, p .image), (own-inside (c .before .before .before .before .before .before .before .before .before .before .before .before .before .before .args .journal .now) (c .before .before .before .before .before .before .before .before .before .before .before .before .before .before .args .image .now) (c .before .before .before .before .before .before .before .before .before .before .before .before .before .before .args .records .now) (c .before .before .before .before .before .before .before .before .before .before .before .before .before .before .args .forward .now) (c .before .before .before .before .before .before .before .before .before .before .before .before .before .before .args .used) (c .before .before .before .before .before .before .before .before .before .before .before .before .before .before .args .position) (c .before .before .before .before .before .before .before .before .before .before .before .before .before .before .pre .0) (c .before .before .before .before .before .before .if1 .left) (c .before .before .before .before .entry-at .ensures), c .before .before .before .before .before .before .before .before .before .before .before .before .before .before .pre .1 .1)))))
+make-step-requires c κs =
+    let root = c .before .before .before .before .before .before .before .before .before .before .before .before .before .before in
+    let s = root .args in
+    let p = tests (s .journal .now) (s .image .now) (s .records .now) (s .forward .now) (s .used) (s .position) (root .pre .0) in (p .fits, (root .pre .1 .0, (p .places, ((p .journal, p .image), (own-inside (s .journal .now) (s .image .now) (s .records .now) (s .forward .now) (s .used) (s .position) (root .pre .0) (c .before .before .before .before .before .before .if1 .left) (c .before .before .before .before .entry-at .ensures), root .pre .1 .1)))))
 
 same-length : tie.Need-same-length
 same-length c = search needs
@@ -36,7 +42,10 @@ same-length-4 : tie.Need-same-length-4
 same-length-4 c = search needs
 
 returns-2 : tie.Need-returns-2
-returns-2 c = step-next (c .before .before .before .before .before .before .before .before .before .before .before .before .before .before .before .before .before .before .before .before .before .before .before .args .journal .now) (c .before .before .before .before .before .before .before .before .before .before .before .before .before .before .before .before .before .before .before .before .before .before .before .args .image .now) (c .before .before .before .before .before .before .before .before .before .before .before .before .before .before .before .before .before .before .before .before .before .before .before .args .records .now) (c .before .before .before .before .before .before .before .before .before .before .before .before .before .before .before .before .before .before .before .before .before .before .before .args .forward .now) (c .before .before .before .before .before .before .before .before .before .before .before .before .before .before .before .before .before .before .before .before .before .before .before .args .used) (c .before .before .before .before .before .before .before .before .before .before .before .before .before .before .before .before .before .before .before .before .before .before .before .args .position) (c .before .before .before .before .before .before .before .before .before .before .before .before .before .before .before .before .before .before .before .before .before .before .before .pre .0) (c .before .before .before .before .before .before .before .before .before .before .before .before .before .before .before .if1 .left) (c .before .before .before .before .before .before .before .before .before .before .before .before .before .entry-at .ensures) (c .before .before .before .before .before .before .before .before .before .before .before .before .before .before .before .before .before .before .before .before .before .before .before .args .at) (c .before .before .before .before .before .before .before .before .before .before .before .before .before .before .before .before .before .before .before .before .before .before .before .args .heads .now) (c .before .before .before .before .before .before .before .before .before .before .before .before .before .before .before .before .before .before .before .before .before .before .before .args .nexts .now) (c .before .before .before .before .before .before .before .before .before .before .before .before .before .before .before .before .before .before .before .before .before .before .before .args .text .now) (c .before .before .before .before .before .before .before .before .make-step .ensures)
+returns-2 c =
+    let root = c .before .before .before .before .before .before .before .before .before .before .before .before .before .before .before .before .before .before .before .before .before .before .before in
+    let s = root .args in
+    step-next (s .journal .now) (s .image .now) (s .records .now) (s .forward .now) (s .used) (s .position) (root .pre .0) (c .before .before .before .before .before .before .before .before .before .before .before .before .before .before .before .if1 .left) (c .before .before .before .before .before .before .before .before .before .before .before .before .before .entry-at .ensures) (s .at) (s .heads .now) (s .nexts .now) (s .text .now) (c .before .before .before .before .before .before .before .before .make-step .ensures)
 
 pub run-step-spec : {M : Type 1} → statement M
 run-step-spec =

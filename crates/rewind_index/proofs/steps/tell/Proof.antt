@@ -14,7 +14,9 @@ use Rattle.rewind_index.proofs.steps.tell.Statement.{statement}
 use Rattle.rewind_index.proofs.steps.tell.Tie as tie
 
 put-behind-requires : tie.Need-put-behind-requires
-put-behind-requires c κs = ((omega (arith, c .before .before .before .before .before .before .before .before .before .before .pre .0 .0), λ h. let g = c .before .before .before .before .before .before .before .before .before .before .pre .1 .0 .1 h in omega (arith, c .before .before .before .before .before .before .before .before .before .before .pre .0 .0)), (c .before .before .before .before .before .before .before .before .before .before .pre .1 .0 .0, (c .before .before .before .before .before .before .before .before .before .before .pre .1 .1 .0, (c .before .before .before .before .before .before .before .before .before .before .pre .1 .1 .1 .0, c .before .before .before .before .before .before .before .before .before .before .pre .1 .1 .1 .1))))
+put-behind-requires c κs =
+    let root = c .before .before .before .before .before .before .before .before .before .before in
+    ((omega (arith, root .pre .0 .0), λ h. let g = root .pre .1 .0 .1 h in omega (arith, root .pre .0 .0)), (root .pre .1 .0 .0, (root .pre .1 .1 .0, (root .pre .1 .1 .1 .0, root .pre .1 .1 .1 .1))))
 
 enum-known-to : tie.Need-enum-known-to
 enum-known-to c = search needs
@@ -26,7 +28,9 @@ put-requires : tie.Need-put-requires
 put-requires c κs = search needs
 
 build-requires : tie.Need-build-requires
-build-requires c κs = (omega (arith, simp length-put at (ap length (c .before .before .before .before .before .put .ensures)), c .before .before .before .before .before .before .before .before .before .before .before .before .before .before .before .before .before .before .before .before .before .before .pre .0 .1 .1), λ h. let g = c .before .before .before .before .before .before .before .before .before .before .before .before .before .before .before .before .before .before .before .before .before .before .pre .1 .0 .1 h in omega (arith, c .before .before .before .before .before .before .before .before .before .before .before .before .before .before .before .before .before .before .before .before .before .before .pre .0 .1 .1))
+build-requires c κs =
+    let root = c .before .before .before .before .before .before .before .before .before .before .before .before .before .before .before .before .before .before .before .before .before .before in
+    (omega (arith, simp length-put at (ap length (c .before .before .before .before .before .put .ensures)), root .pre .0 .1 .1), λ h. let g = root .pre .1 .0 .1 h in omega (arith, root .pre .0 .1 .1))
 
 same-length : tie.Need-same-length
 same-length c = search needs
@@ -41,7 +45,10 @@ same-length-4 : tie.Need-same-length-4
 same-length-4 c = search needs
 
 returns : tie.Need-returns
-returns c = tell-to (c .before .before .before .before .before .before .before .before .before .before .before .before .before .before .before .before .args .journal .now) (c .before .before .before .before .before .before .before .before .before .before .before .before .before .before .before .before .args .image .now) (table (c .before .before .before .before .before .before .before .before .before .before .before .before .before .before .before .before .args .forward .now) (c .before .before .before .before .before .before .before .before .before .before .before .before .before .before .before .before .args .used)) (c .before .before .before .before .before .before .before .before .before .before .before .before .before .before .before .before .args .parent) (c .before .before .before .before .before .before .before .before .before .before .before .before .before .before .before .before .args .name) (c .before .before .before .before .before .before .before .before .before .before .before .before .before .before .before .before .args .text .now) (c .before .before .before .before .before .before .before .before .before .before .before .before .before .before .before .before .args .at) (length (c .before .before .before .before .before .before .before .before .before .before .before .before .before .before .before .before .args .heads .now)) (c .before .before .before .before .before .before .before .before .before .before .before .before .before .before .before .before .args .nexts .now) (table (putAt (c .before .before .before .before .before .before .before .before .before .before .before .before .before .before .before .before .args .forward .now) (c .before .before .before .before .before .before .before .before .before .before .before .before .before .before .before .before .args .slot) (c .before .before .before .before .before .before .before .before .before .before .before .before .before .before .before .before .args .old-key) (c .before .before .before .before .before .before .before .before .before .before .before .before .before .before .before .before .args .old-info)) (c .before .before .before .before .before .before .before .before .before .before .before .before .before .before .before .before .args .old-used)) (c .before .before .before .before .before .put-behind .ensures .0) (c .before .before .before .before .before .put-behind .ensures .1) (c .before .to .given .1) (c .before .before .before .before .before .before .before .before .before .before .before .before .before .before .before .before .pre .1 .0 .0 .0) (c .before .before .before .before .before .before .before .before .before .before .before .before .before .before .before .before .pre .1 .0 .0 .1)
+returns c =
+    let root = c .before .before .before .before .before .before .before .before .before .before .before .before .before .before .before .before in
+    let s = root .args in
+    tell-to (s .journal .now) (s .image .now) (table (s .forward .now) (s .used)) (s .parent) (s .name) (s .text .now) (s .at) (length (s .heads .now)) (s .nexts .now) (table (putAt (s .forward .now) (s .slot) (s .old-key) (s .old-info)) (s .old-used)) (c .before .before .before .before .before .put-behind .ensures .0) (c .before .before .before .before .before .put-behind .ensures .1) (c .before .to .given .1) (root .pre .1 .0 .0 .0) (root .pre .1 .0 .0 .1)
 
 same-length-5 : tie.Need-same-length-5
 same-length-5 c = search needs
@@ -56,7 +63,10 @@ same-length-8 : tie.Need-same-length-8
 same-length-8 c = search needs
 
 returns-2 : tie.Need-returns-2
-returns-2 c = tell-full (c .before .before .before .before .before .before .before .before .before .before .before .before .before .before .before .before .before .before .before .before .before .before .before .before .before .before .before .args .journal .now) (c .before .before .before .before .before .before .before .before .before .before .before .before .before .before .before .before .before .before .before .before .before .before .before .before .before .before .before .args .image .now) (table (c .before .before .before .before .before .before .before .before .before .before .before .before .before .before .before .before .before .before .before .before .before .before .before .before .before .before .before .args .forward .now) (c .before .before .before .before .before .before .before .before .before .before .before .before .before .before .before .before .before .before .before .before .before .before .before .before .before .before .before .args .used)) (c .before .before .before .before .before .before .before .before .before .before .before .before .before .before .before .before .before .before .before .before .before .before .before .before .before .before .before .args .parent) (c .before .before .before .before .before .before .before .before .before .before .before .before .before .before .before .before .before .before .before .before .before .before .before .before .before .before .before .args .name) (c .before .before .before .before .before .before .before .before .before .before .before .before .before .before .before .before .before .before .before .before .before .before .before .before .before .before .before .args .text .now) (c .before .before .before .before .before .before .before .before .before .before .before .before .before .before .before .before .before .before .before .before .before .before .before .before .before .before .before .args .at) (length (c .before .before .before .before .before .before .before .before .before .before .before .before .before .before .before .before .before .before .before .before .before .before .before .before .before .before .before .args .heads .now)) (c .before .before .before .before .before .before .before .before .before .before .before .before .before .before .before .before .before .before .before .before .before .before .before .before .before .before .before .args .nexts .now) (table (putAt (c .before .before .before .before .before .before .before .before .before .before .before .before .before .before .before .before .before .before .before .before .before .before .before .before .before .before .before .args .forward .now) (c .before .before .before .before .before .before .before .before .before .before .before .before .before .before .before .before .before .before .before .before .before .before .before .before .before .before .before .args .slot) (c .before .before .before .before .before .before .before .before .before .before .before .before .before .before .before .before .before .before .before .before .before .before .before .before .before .before .before .args .old-key) (c .before .before .before .before .before .before .before .before .before .before .before .before .before .before .before .before .before .before .before .before .before .before .before .before .before .before .before .args .old-info)) (c .before .before .before .before .before .before .before .before .before .before .before .before .before .before .before .before .before .before .before .before .before .before .before .before .before .before .before .args .old-used)) (c .before .before .before .before .before .before .before .before .before .before .before .before .before .before .before .before .put-behind .ensures .0) (c .before .before .before .before .before .before .before .before .before .before .before .before .before .before .before .before .put-behind .ensures .1) (c .before .before .before .before .before .before .before .before .before .before .before .before .enum-told .given .1) (c .before .before .before .before .before .before .before .before .before .before .put .ensures) (c .before .before .before .before .build .ensures .0 ∙ ap (λ (w : List ℕ). headsOf (length (c .before .before .before .before .before .before .before .before .before .before .before .before .before .before .before .before .before .before .before .before .before .before .before .before .before .before .before .args .heads .now)) (table w (c .before .before .before .before .before .before .before .before .before .before .before .before .before .before .before .before .before .before .before .before .before .before .before .before .before .before .before .args .old-used))) (c .before .before .before .before .before .before .before .before .before .before .put .ensures)) (c .before .before .before .before .build .ensures .1 ∙ ap (λ (w : List ℕ). nextsOf (length (c .before .before .before .before .before .before .before .before .before .before .before .before .before .before .before .before .before .before .before .before .before .before .before .before .before .before .before .args .heads .now)) (table w (c .before .before .before .before .before .before .before .before .before .before .before .before .before .before .before .before .before .before .before .before .before .before .before .before .before .before .before .args .old-used)) (c .before .before .before .before .before .before .before .before .before .before .before .before .before .before .before .before .before .before .before .before .before .before .before .before .before .before .before .args .nexts .now)) (c .before .before .before .before .before .before .before .before .before .before .put .ensures))
+returns-2 c =
+    let root = c .before .before .before .before .before .before .before .before .before .before .before .before .before .before .before .before .before .before .before .before .before .before .before .before .before .before .before in
+    let s = root .args in
+    tell-full (s .journal .now) (s .image .now) (table (s .forward .now) (s .used)) (s .parent) (s .name) (s .text .now) (s .at) (length (s .heads .now)) (s .nexts .now) (table (putAt (s .forward .now) (s .slot) (s .old-key) (s .old-info)) (s .old-used)) (c .before .before .before .before .before .before .before .before .before .before .before .before .before .before .before .before .put-behind .ensures .0) (c .before .before .before .before .before .before .before .before .before .before .before .before .before .before .before .before .put-behind .ensures .1) (c .before .before .before .before .before .before .before .before .before .before .before .before .enum-told .given .1) (c .before .before .before .before .before .before .before .before .before .before .put .ensures) (c .before .before .before .before .build .ensures .0 ∙ ap (λ (w : List ℕ). headsOf (length (s .heads .now)) (table w (s .old-used))) (c .before .before .before .before .before .before .before .before .before .before .put .ensures)) (c .before .before .before .before .build .ensures .1 ∙ ap (λ (w : List ℕ). nextsOf (length (s .heads .now)) (table w (s .old-used)) (s .nexts .now)) (c .before .before .before .before .before .before .before .before .before .before .put .ensures))
 
 pub tell-spec : {M : Type 1} → statement M
 tell-spec =
