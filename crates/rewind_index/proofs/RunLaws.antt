@@ -1,5 +1,5 @@
 -- A run by its turns: what is left, from where it stands, leads to where all of it leads. Assumes nothing.
-use Prim.Native.Nat.{ℕ, zero, suc, _+_, _-_, _≤_, _<_}
+use Prim.Native.Nat.{ℕ, suc, _+_, _-_, _≤_, _<_}
 use mathlib.Core.Path.{_≡_, refl, ap, sym, _∙_}
 use mathlib.Core.List.{List, [], _∷_, _++_}
 use native.Mathlib.Omega.{arith}
@@ -18,8 +18,8 @@ use Rattle.rewind.specs.Stepping.{Next, ended, next, Step, forwardTable}
 use Rattle.rewind.specs.Telling.{recordText, told}
 use Rattle.rewind.specs.declared.Rewind.{Rewind}
 use Rattle.rewind_index.specs.declared.RewindRun.{RewindRun}
-use Rattle.rewind_index.specs.Running.{Run, runFrom, oneMore, onward, running, ran, runAnswer, runTable}
-use Rattle.rewind_index.specs.Making.{stateOf, madeOf, tableAfter}
+use Rattle.rewind_index.specs.Running.{Run, runFrom, onward, running, ran, runAnswer, runTable}
+use Rattle.rewind_index.specs.Making.{stateOf, madeOf}
 use Rattle.rewind_index.specs.declared.steps.Made.{Made}
 use Rattle.rewind_index.specs.declared.steps.Made.the-variants.{To, End, Refused}
 use Rattle.rewind_index.proofs.MakeLaws.{Comes}
