@@ -14,11 +14,11 @@ use Rattle.rewind.specs.Starting.{Tables, begun}
 -- the outcome of a start over a table with so many slots, and the lent words
 module _ (slots : ℕ) (o : Outcome Tables) (heads nexts : List ℕ) where
   -- the first table that it leads to
-  abbrev pub firstOf : Outcome Table
-  firstOf = mapOutcome (λ (ts : Tables). ts .first) o
+  abbrev pub firstTable : Outcome Table
+  firstTable = mapOutcome (λ (ts : Tables). ts .first) o
 
   abbrev pub Leaves : List ℕ → List ℕ → Type 0
-  Leaves h n = (h ≡ headsLeft slots firstOf heads nexts) × (n ≡ nextsLeft slots firstOf heads nexts)
+  Leaves h n = (h ≡ headsLeft slots firstTable heads nexts) × (n ≡ nextsLeft slots firstTable heads nexts)
 
   alone : (b : Bool) (l : List ℕ) → l ≡ cond b l l
   alone true l = refl

@@ -73,7 +73,7 @@ module _ (journal image records words : List ℕ) (r : Rewind) (heads nexts ends
         (rw (lt-ltb 0 (length ends) some, b))
 
     module _ (h : n ≡ 0) where
-      pub run-tests : refusalOf env t ≡ 0
+      run-tests : refusalOf env t ≡ 0
       run-tests = sym e ∙ h
 
       is-built : built ≡ enough (slotsIn words) heads nexts

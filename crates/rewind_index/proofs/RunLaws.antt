@@ -43,12 +43,12 @@ pub run-none : (journal image records : List ℕ) (room : ℕ) (r : Run) → run
 unfolding running
 run-none journal image records room r = refl
 
--- where a run stands, none of whose steps is refused
-abbrev pub nowAt : List ℕ → ℕ → ℕ → List ℕ → List ℕ → Run
-nowAt words used position texts marks = record { words = words; rewind = stateOf used position; text = texts; ends = marks; refusal = 0 }
-
+-- a run that stopped with a refusal, and one that has none so far
 abbrev pub stopAt : List ℕ → ℕ → ℕ → List ℕ → List ℕ → ℕ → Run
 stopAt words used position texts marks k = record { words = words; rewind = stateOf used position; text = texts; ends = marks; refusal = k }
+
+abbrev pub nowAt : List ℕ → ℕ → ℕ → List ℕ → List ℕ → Run
+nowAt words used position texts marks = stopAt words used position texts marks 0
 
 -- what a step's answer says of what it comes to
 module _ (journal image : List ℕ) (at : ℕ) where
