@@ -1,8 +1,8 @@
 -- A run is the calls of a step with text that it stands for, however many are asked for: what they come to, put together, and what they leave.
 -- Assumes nothing.
 use Prim.Native.Nat.{ℕ, zero, suc, _-_}
-use mathlib.Core.Path.{_≡_, refl, ap, sym, _∙_}
-use mathlib.Core.List.{List, [], _∷_}
+use mathlib.Core.Path.{_≡_, refl}
+use mathlib.Core.List.{List}
 use lib.ListN.{length}
 use Rattle.walk.specs.Outcome.{Outcome, refused, answered}
 use Rattle.rewind.specs.Stepping.{Next, ended, next, Step, wordsAfter, rewindAfter}

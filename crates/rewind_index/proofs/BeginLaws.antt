@@ -1,27 +1,24 @@
 -- What a start leaves in the words of an index: nothing where it is refused, and otherwise the index of the first table. Assumes nothing.
 use Prim.Native.Nat.{ℕ}
-use mathlib.Core.Path.{_≡_, refl, ap, sym, _∙_}
+use mathlib.Core.Path.{_≡_, refl}
 use mathlib.Core.List.{List}
 use mathlib.Core.Bool.{Bool, true, false, cond}
 use native.Mathlib.Omega.{arith}
 use lib.ListN.{length}
 use Rattle.walk.specs.Outcome.{Outcome, refused, answered, mapOutcome}
-use Rattle.entry_table.specs.Slots.{slotsIn}
-use Rattle.entry_table.specs.Table.{Table, Addition}
-use Rattle.entry_table.specs.Storing.{adding}
+use Rattle.entry_table.specs.Table.{Table}
 use Rattle.entry_index.specs.Index.{headsOf, nextsOf, headsAfter, nextsAfter, enough, headsLeft, nextsLeft}
 use Rattle.entry_index.proofs.SeedLaws.{index-then}
 use Rattle.rewind.specs.Starting.{Tables, begun}
-use Rattle.rewind.specs.declared.Rewind.{Rewind}
 
 -- the outcome of a start over a table with so many slots, and the lent words
 module _ (slots : ℕ) (o : Outcome Tables) (heads nexts : List ℕ) where
   -- the first table that it leads to
-  abbrev pub firstOf : Outcome Table
-  firstOf = mapOutcome (λ (ts : Tables). ts .first) o
+  abbrev pub firstTable : Outcome Table
+  firstTable = mapOutcome (λ (ts : Tables). ts .first) o
 
   abbrev pub Leaves : List ℕ → List ℕ → Type 0
-  Leaves h n = (h ≡ headsLeft slots firstOf heads nexts) × (n ≡ nextsLeft slots firstOf heads nexts)
+  Leaves h n = (h ≡ headsLeft slots firstTable heads nexts) × (n ≡ nextsLeft slots firstTable heads nexts)
 
   alone : (b : Bool) (l : List ℕ) → l ≡ cond b l l
   alone true l = refl

@@ -7,14 +7,14 @@ use mathlib.Core.Bool.{Bool, true, false}
 use native.Mathlib.Omega.{arith}
 use borrow.Author.Tests.{lt-ltb, ne-eqb}
 use lib.ListN.{length}
-use lib.Dec.{ltb, eqb}
-use Rattle.walk.specs.Outcome.{Outcome, refused, answered}
+use lib.Dec.{eqb}
+use Rattle.walk.specs.Outcome.{refused, answered}
 use Rattle.walk.specs.Lists.{overwrite}
 use Rattle.entry_table.specs.Slots.{stride, slotsIn}
 use Rattle.entry_table.specs.Table.{Table}
 use Rattle.entry_index.specs.Index.{headsOf, nextsOf, Indexed, enough}
 use Rattle.entry_index.proofs.IndexLaws.{no-heads, no-nexts}
-use Rattle.entry_index.proofs.SeedLaws.{heads-long, nexts-long, index-again, index-then, enough-room}
+use Rattle.entry_index.proofs.SeedLaws.{nexts-long, index-again, index-then, enough-room}
 use Rattle.rewind.specs.Environment.{Environment, environmentOf, refusalOf}
 use Rattle.rewind.specs.Stepping.{turning, forwardTable}
 use Rattle.rewind.specs.Telling.{told}
@@ -73,7 +73,7 @@ module _ (journal image records words : List ℕ) (r : Rewind) (heads nexts ends
         (rw (lt-ltb 0 (length ends) some, b))
 
     module _ (h : n ≡ 0) where
-      pub run-tests : refusalOf env t ≡ 0
+      run-tests : refusalOf env t ≡ 0
       run-tests = sym e ∙ h
 
       is-built : built ≡ enough (slotsIn words) heads nexts

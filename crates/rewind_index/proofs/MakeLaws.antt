@@ -1,5 +1,5 @@
 -- A step of a run by its ways out: the answer, and what the table, its index and the text then are. Assumes nothing.
-use Prim.Native.Nat.{ℕ, _+_, _-_, _*_, _≤_, _<_}
+use Prim.Native.Nat.{ℕ, _+_, _-_, _≤_, _<_}
 use mathlib.Core.Path.{_≡_, refl, ap, sym, _∙_}
 use mathlib.Core.List.{List, [], _∷_}
 use mathlib.Core.Bool.{Bool, true, false}
@@ -10,7 +10,7 @@ use lib.Dec.{ltb}
 use Rattle.walk.specs.Outcome.{Outcome, refused, answered}
 use Rattle.walk.specs.Refusals.{tableFull, textFull, domain}
 use Rattle.entry_table.specs.Names.{lengthsOf, inside, allInside}
-use Rattle.entry_table.specs.Slots.{stride, slotsIn, keyAt, infoAt, putAt, namesIn}
+use Rattle.entry_table.specs.Slots.{slotsIn, keyAt, infoAt, putAt, namesIn}
 use Rattle.entry_table.specs.Table.{Table, table, slotFor, Addition}
 use Rattle.entry_table.specs.Storing.{adding, usedAfter, wordsAfter}
 use Rattle.entry_table.specs.declared.EntryKey.{EntryKey}
@@ -30,7 +30,7 @@ use Rattle.rewind.specs.Telling.{recordText, telling}
 use Rattle.rewind.specs.declared.entries.RecordEntry.{RecordEntry}
 use Rattle.rewind_index.specs.Making.{making, madeOf, tableAfter, textAfter}
 use Rattle.rewind_index.specs.declared.steps.Made.{Made}
-use Rattle.rewind_index.specs.declared.steps.Made.the-variants.{To, End, Refused}
+use Rattle.rewind_index.specs.declared.steps.Made.the-variants.{To, Refused}
 
 -- what a step that comes to o has to leave, from a table t, an index of m heads beside the words of nexts, and a text: its answer, the words of the
 -- table, the heads, the nexts and the text

@@ -1,5 +1,5 @@
 -- A run by its turns: what is left, from where it stands, leads to where all of it leads. Assumes nothing.
-use Prim.Native.Nat.{ℕ, zero, suc, _+_, _-_, _≤_, _<_}
+use Prim.Native.Nat.{ℕ, suc, _+_, _-_, _≤_, _<_}
 use mathlib.Core.Path.{_≡_, refl, ap, sym, _∙_}
 use mathlib.Core.List.{List, [], _∷_, _++_}
 use native.Mathlib.Omega.{arith}
@@ -18,8 +18,8 @@ use Rattle.rewind.specs.Stepping.{Next, ended, next, Step, forwardTable}
 use Rattle.rewind.specs.Telling.{recordText, told}
 use Rattle.rewind.specs.declared.Rewind.{Rewind}
 use Rattle.rewind_index.specs.declared.RewindRun.{RewindRun}
-use Rattle.rewind_index.specs.Running.{Run, runFrom, oneMore, onward, running, ran, runAnswer, runTable}
-use Rattle.rewind_index.specs.Making.{stateOf, madeOf, tableAfter}
+use Rattle.rewind_index.specs.Running.{Run, runFrom, onward, running, ran, runAnswer, runTable}
+use Rattle.rewind_index.specs.Making.{stateOf, madeOf}
 use Rattle.rewind_index.specs.declared.steps.Made.{Made}
 use Rattle.rewind_index.specs.declared.steps.Made.the-variants.{To, End, Refused}
 use Rattle.rewind_index.proofs.MakeLaws.{Comes}
@@ -43,12 +43,12 @@ pub run-none : (journal image records : List ℕ) (room : ℕ) (r : Run) → run
 unfolding running
 run-none journal image records room r = refl
 
--- where a run stands, none of whose steps is refused
-abbrev pub nowAt : List ℕ → ℕ → ℕ → List ℕ → List ℕ → Run
-nowAt words used position texts marks = record { words = words; rewind = stateOf used position; text = texts; ends = marks; refusal = 0 }
-
+-- a run that stopped with a refusal, and one that has none so far
 abbrev pub stopAt : List ℕ → ℕ → ℕ → List ℕ → List ℕ → ℕ → Run
 stopAt words used position texts marks k = record { words = words; rewind = stateOf used position; text = texts; ends = marks; refusal = k }
+
+abbrev pub nowAt : List ℕ → ℕ → ℕ → List ℕ → List ℕ → Run
+nowAt words used position texts marks = stopAt words used position texts marks 0
 
 -- what a step's answer says of what it comes to
 module _ (journal image : List ℕ) (at : ℕ) where

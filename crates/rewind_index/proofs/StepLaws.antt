@@ -1,6 +1,6 @@
 -- A step of a run whose tests have passed: it is by the record at its position, and where it is made the tests pass for the table after it, so that
 -- they are made once. Assumes nothing.
-use Prim.Native.Nat.{ℕ, _+_, _-_, _≤_, _<_}
+use Prim.Native.Nat.{ℕ, _-_, _≤_, _<_}
 use mathlib.Core.Path.{_≡_, refl, ap, sym, _∙_}
 use mathlib.Core.List.{List, [], _∷_}
 use mathlib.Core.Bool.{Bool, true, false}
@@ -21,7 +21,7 @@ use Rattle.path.proofs.CallLaws.{text-fits}
 use Rattle.rewind.specs.Entries.{forward}
 use Rattle.rewind.specs.Environment.{Environment, environmentOf, recordsIn, offsetIn, refusalOf}
 use Rattle.rewind.specs.Walking.{entryIn}
-use Rattle.rewind.specs.Stepping.{Next, ended, next, turning, Step, stepOf, stepped}
+use Rattle.rewind.specs.Stepping.{ended, next, turning, Step, stepOf, stepped}
 use Rattle.rewind.specs.Telling.{recordText, nextText, told}
 use Rattle.rewind.specs.declared.entries.RecordEntry.{RecordEntry}
 use Rattle.rewind.proofs.EntryLaws.{entry-inside}

@@ -8,7 +8,7 @@ use Rattle.rewind.specs.Telling.{told}
 use Rattle.rewind.specs.declared.Rewind.{Rewind}
 use Rattle.rewind_index.specs.Running.{Run, oneMore, onward}
 
--- what the calls after one have, by what it comes to: none where it is refused or no record is left
+-- the rooms of the calls after one, by what it comes to: none where it is refused or no record is left
 abbrev pub roomsOn : (Run → List ℕ) → List ℕ → List ℕ → Run → Outcome (Next Step) → List ℕ
 roomsOn more journal image r (refused n) = []
 roomsOn more journal image r (answered ended) = []

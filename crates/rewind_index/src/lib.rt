@@ -1,8 +1,8 @@
-// The rewind of a change journal in time that grows with its records: a start and many steps in one call, by way of an index of the
-// lookup table in lent memory.
+// The rewind of a change journal by way of an index of the lookup table in lent memory: a start, and many steps in one call.
 //
 // Each call tests once what the calls of `rewind` test at every step, builds the index, and then does what they do. The index is
-// that of `entry_index`; where the words for it are too few, the calls do without it, and answer and write the same.
+// that of `entry_index`; where the words for it are too few, the calls do without it, and answer and write the same. A start with
+// fewer slots than the used ones and all records need passes over them to count the new keys, as `rewind::rewind_start` does.
 //
 // Every function here is proved. The public calls have no `requires`.
 mod backward;

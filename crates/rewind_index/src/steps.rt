@@ -59,7 +59,7 @@ fn slot_for(slots: &[u64], used: usize, heads: &[u64], nexts: &[u64], key: Entry
 }
 
 // The text of a record that the table has, by its parent and its own name. Where there is no room for it, what stood in the
-// record's slot is put back, and so many slots are used as before.
+// record's slot is put back, and as many slots are used as before.
 fn tell(
     journal: &[u8],
     image: &[u8],

@@ -1,5 +1,4 @@
 -- By whether a record is left.
-use native.Mathlib.Omega.{arith}
 use Rattle.rewind_index.proofs.StepLaws.{tests, step-end, own-inside, step-next}
 use borrow.Author.Needs.{needs}
 use Rattle.rewind_index.proofs.steps.run_step.Statement.{statement}
