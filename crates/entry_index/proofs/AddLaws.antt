@@ -1,19 +1,19 @@
 -- An addition by way of an index: each way out, and what it leaves. Assumes nothing.
-use Prim.Native.Nat.{ℕ, zero, suc, _+_, _-_, _*_, _≤_, _<_}
+use Prim.Native.Nat.{ℕ, _+_, _-_, _*_, _≤_, _<_}
 use mathlib.Core.Path.{_≡_, refl, ap, sym, _∙_, subst}
-use mathlib.Core.List.{List, [], _∷_}
-use mathlib.Core.Bool.{Bool, true, false, cond}
+use mathlib.Core.List.{List}
+use mathlib.Core.Bool.{Bool, true, false}
 use native.Mathlib.Omega.{arith}
 use borrow.Author.Tests.{eqb-true, eqb-false}
-use lib.ListN.{length, getD}
+use lib.ListN.{length}
 use lib.Dec.{eqb}
 use Rattle.walk.specs.Outcome.{Outcome, refused, answered}
 use Rattle.entry_table.specs.Slots.{stride, slotsIn, keyAt, putAt}
-use Rattle.entry_table.specs.Table.{Table, table, find, Addition, addition}
+use Rattle.entry_table.specs.Table.{Table, table, find}
 use Rattle.entry_table.specs.Storing.{usedAfter, wordsAfter}
 use Rattle.entry_table.specs.declared.EntryKey.{EntryKey}
 use Rattle.entry_table.specs.declared.EntryInfo.{EntryInfo}
-use Rattle.entry_table.specs.declared.slots.Found.the-variants.{At, Nothing}
+use Rattle.entry_table.specs.declared.slots.Found.the-variants.{At}
 use Rattle.entry_table.proofs.FindLaws.{same-equal, find-at}
 use Rattle.entry_table.proofs.PutLaws.{put-key, put-key-other}
 use Rattle.entry_table.proofs.TableLaws.{find-used}

@@ -1,20 +1,20 @@
 -- An index by its single links, and where there is none. Assumes nothing.
 use Prim.Native.Nat.{ℕ, zero, suc, _+_, _-_, _*_, _%_, _≤_, _<_}
-use mathlib.Core.Path.{_≡_, refl, ap, sym, _∙_, subst}
-use mathlib.Core.List.{List, [], _∷_}
-use mathlib.Core.Bool.{Bool, true, false, cond, _&&_}
+use mathlib.Core.Path.{_≡_, refl, ap, sym, _∙_}
+use mathlib.Core.List.{List}
+use mathlib.Core.Bool.{Bool, true, false}
 use native.Mathlib.Omega.{arith}
 use native.Mathlib.Nat.{mod-lt, add-zero, zero-add}
 use borrow.Author.Tests.{lt-ltb, le-ltb, eq-eqb, ne-eqb, eqb-true, eqb-false}
 use lib.ListN.{length, getD, set, replicate, length-set, length-replicate, getD-replicate}
 use lib.Seq.{ext-getD, getD-set-same, getD-set-other}
-use lib.Dec.{ltb, leb, eqb}
+use lib.Dec.{leb, eqb}
 use Rattle.walk.proofs.ChoiceLaws.{cond-cases}
-use Rattle.entry_table.specs.Slots.{keyAt, rows}
+use Rattle.entry_table.specs.Slots.{rows}
 use Rattle.entry_table.specs.Table.{Table}
 use Rattle.entry_table.specs.declared.EntryKey.{EntryKey}
 use Rattle.entry_table.proofs.RowLaws.{length-rows}
-use Rattle.entry_index.specs.Index.{hash, firstLink, headOf, nextOf, headsOf, nextsOf, Indexed, enough}
+use Rattle.entry_index.specs.Index.{hash, headOf, nextOf, headsOf, nextsOf, Indexed, enough}
 use Rattle.entry_index.specs.Probing.{headsLinked, nextsLinked}
 
 pub hash-below : (m : ℕ) (k : EntryKey) → 0 < m → hash m k < m

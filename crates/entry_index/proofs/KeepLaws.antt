@@ -16,7 +16,7 @@ use Rattle.entry_table.specs.declared.EntryKey.{EntryKey}
 use Rattle.entry_table.proofs.TestLaws.{from-here}
 use Rattle.entry_index.specs.Index.{hash, firstLink, headOf, nextOf}
 use Rattle.entry_index.specs.Probing.{following, LinkOf, LastOf, headsLinked, nextsLinked}
-use Rattle.entry_index.proofs.IndexLaws.{hash-below, Links}
+use Rattle.entry_index.proofs.IndexLaws.{Links}
 use Rattle.entry_index.proofs.ProbeLaws.{hashAt}
 use Rattle.entry_index.proofs.BuildLaws.{first-here, first-on, first-end}
 

@@ -1,14 +1,14 @@
 -- An index that is kept over several changes of the table, and what a call that may have none leaves. Assumes nothing.
-use Prim.Native.Nat.{ℕ, zero, suc, _+_, _-_, _*_, _≤_, _<_}
+use Prim.Native.Nat.{ℕ, _+_, _-_, _≤_, _<_}
 use mathlib.Core.Path.{_≡_, refl, ap, sym, _∙_}
 use mathlib.Core.List.{List, [], _∷_}
-use mathlib.Core.Bool.{Bool, true, false, cond, not}
+use mathlib.Core.Bool.{Bool, true, false, cond}
 use native.Mathlib.Omega.{arith}
-use borrow.Author.Tests.{ltb-true, ltb-false, leb-true, le-ltb, not-true, not-false}
+use borrow.Author.Tests.{leb-true}
 use lib.ListN.{length}
 use lib.Dec.{ltb, leb}
-use Rattle.walk.specs.Outcome.{Outcome, refused, answered}
-use Rattle.walk.proofs.ChoiceLaws.{cond-cases, and-left, and-right}
+use Rattle.walk.specs.Outcome.{Outcome, answered}
+use Rattle.walk.proofs.ChoiceLaws.{cond-cases, and-right}
 use Rattle.entry_table.specs.Slots.{slotsIn, rows}
 use Rattle.entry_table.specs.Table.{Table, table, Addition}
 use Rattle.entry_table.specs.Storing.{adding, usedAfter, wordsAfter}

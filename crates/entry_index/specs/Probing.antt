@@ -13,7 +13,7 @@ use Rattle.entry_index.specs.Index.{hash, firstLink, headOf}
 use Rattle.entry_index.specs.declared.links.Probe.{Probe}
 use Rattle.entry_index.specs.declared.links.Probe.the-variants.{Hit, Last}
 
--- the link that follows a link of the hash h; the head follows none
+-- the link that comes after a link of the hash h; after none comes the head
 unfoldable pub following : ℕ → Table → ℕ → ℕ → ℕ
 following m t h zero = headOf m t h
 following m t h (suc i) = firstLink m (t .words) h (i + 1) (t .used - (i + 1))

@@ -39,7 +39,10 @@ same-length-5 : tie.Need-same-length-5
 same-length-5 c = search needs
 
 returns-2 : tie.Need-returns-2
-returns-2 c = comes-left _ _ _ _ (sym (c .before .before .is-enough .ensures) ∙ not-false _ (c .before .if1 .left)) (stored-bad-state _ _ _ (c .if2 .taken)) refl refl (refl, refl)
+returns-2 c =
+    let t = c .before in
+    let e = sym (t .before .is-enough .ensures) ∙ not-false _ (t .if1 .left) in
+    comes-left _ _ _ _ e (stored-bad-state _ _ _ (c .if2 .taken)) refl refl (refl, refl)
 
 carved-inside-requires : tie.Need-carved-inside-requires
 carved-inside-requires c κs = search needs
@@ -51,7 +54,10 @@ same-length-7 : tie.Need-same-length-7
 same-length-7 c = search needs
 
 returns-3 : tie.Need-returns-3
-returns-3 c = comes-left _ _ _ _ (sym (c .before .before .before .before .is-enough .ensures) ∙ not-false _ (c .before .before .before .if1 .left)) (stored-outside _ _ _ (c .before .before .if2 .left) (sym (c .before .carved-inside .ensures) ∙ not-true _ (c .if3 .taken))) refl refl (refl, refl)
+returns-3 c =
+    let t = c .before .before .before in
+    let e = sym (t .before .is-enough .ensures) ∙ not-false _ (t .if1 .left) in
+    comes-left _ _ _ _ e (stored-outside _ _ _ (c .before .before .if2 .left) (sym (c .before .carved-inside .ensures) ∙ not-true _ (c .if3 .taken))) refl refl (refl, refl)
 
 has-room-requires : tie.Need-has-room-requires
 has-room-requires c κs = search needs
@@ -66,13 +72,24 @@ same-length-10 : tie.Need-same-length-10
 same-length-10 c = search needs
 
 returns-4 : tie.Need-returns-4
-returns-4 c = comes-left _ _ _ _ (sym (c .before .before .before .before .before .before .before .is-enough .ensures) ∙ not-false _ (c .before .before .before .before .before .before .if1 .left)) (stored-inside _ _ _ (c .before .before .before .before .before .if2 .left) (sym (c .before .before .before .before .carved-inside .ensures) ∙ not-false _ (c .before .before .before .if3 .left)) ∙ adding-full _ _ (leb-false _ _ (sym (c .before .has-room .ensures) ∙ not-true _ (c .if4 .taken)))) refl refl (refl, refl)
+returns-4 c =
+    let t = c .before .before .before .before .before .before in
+    let e = sym (t .before .is-enough .ensures) ∙ not-false _ (t .if1 .left) in
+    let full = leb-false _ _ (sym (c .before .has-room .ensures) ∙ not-true _ (c .if4 .taken)) in
+    comes-left _ _ _ _ e (stored-inside _ _ _ (c .before .before .before .before .before .if2 .left) (sym (c .before .before .before .before .carved-inside .ensures) ∙ not-false _ (c .before .before .before .if3 .left)) ∙ adding-full _ _ full) refl refl (refl, refl)
 
 build-requires : tie.Need-build-requires
-build-requires c κs = (omega (arith, c .before .before .before .before .before .before .before .before .if2 .left), λ h. omega (arith, c .before .before .before .before .before .before .before .before .if2 .left, enough-room _ _ _ (sym (c .before .before .before .before .before .before .before .before .before .before .is-enough .ensures) ∙ not-false _ (c .before .before .before .before .before .before .before .before .before .if1 .left))))
+build-requires c κs =
+    let t = c .before .before .before .before .before .before .before .before .before in
+    let e = sym (t .before .is-enough .ensures) ∙ not-false _ (t .if1 .left) in
+    (omega (arith, c .before .before .before .before .before .before .before .before .if2 .left), λ h. omega (arith, c .before .before .before .before .before .before .before .before .if2 .left, enough-room _ _ _ e))
 
 add-carved-requires : tie.Need-add-carved-requires
-add-carved-requires c κs = ((leb-true _ _ (sym (c .before .before .before .before .before .before .before .before .before .before .before .before .has-room .ensures) ∙ not-false _ (c .before .before .before .before .before .before .before .before .before .before .before .if4 .left))), (index-again _ _ _ (c .before .before .before .before .before .before .before .build .ensures .0) (c .before .before .before .before .before .before .before .build .ensures .1), λ h. omega (arith, enough-room _ _ _ (sym (c .before .before .before .before .before .before .before .before .before .before .before .before .before .before .before .before .before .before .is-enough .ensures) ∙ not-false _ (c .before .before .before .before .before .before .before .before .before .before .before .before .before .before .before .before .before .if1 .left)), nexts-long _ _ _ (c .before .before .before .before .before .before .before .build .ensures .0) (c .before .before .before .before .before .before .before .build .ensures .1))))
+add-carved-requires c κs =
+    let t = c .before .before .before .before .before .before .before .before .before .before .before .before .before .before .before .before .before in
+    let e = sym (t .before .is-enough .ensures) ∙ not-false _ (t .if1 .left) in
+    let (heads, nexts) = c .before .before .before .before .before .before .before .build .ensures in
+    ((leb-true _ _ (sym (c .before .before .before .before .before .before .before .before .before .before .before .before .has-room .ensures) ∙ not-false _ (c .before .before .before .before .before .before .before .before .before .before .before .if4 .left))), (index-again _ _ _ heads nexts, λ h. omega (arith, enough-room _ _ _ e, nexts-long _ _ _ heads nexts)))
 
 same-length-11 : tie.Need-same-length-11
 same-length-11 c = search needs
@@ -85,9 +102,12 @@ same-length-13 c = search needs
 
 returns-5 : tie.Need-returns-5
 returns-5 c =
+    let t = c .before .before .before .before .before .before .before .before .before .before .before .before .before .before .before .before .before .before .before .before .before .before .before .before in
+    let e = sym (t .before .is-enough .ensures) ∙ not-false _ (t .if1 .left) in
+    let (heads, nexts) = c .before .before .before .before .before .before .before .before .before .before .before .before .before .before .build .ensures in
+    let (used, (words, (heads′, nexts′))) = c .before .before .before .before .before .before .add-carved .ensures in
     let all = adding-room _ _ (leb-true _ _ (sym (c .before .before .before .before .before .before .before .before .before .before .before .before .before .before .before .before .before .before .before .has-room .ensures) ∙ not-false _ (c .before .before .before .before .before .before .before .before .before .before .before .before .before .before .before .before .before .before .if4 .left))) in
-    comes-left _ _ _ _ (sym (c .before .before .before .before .before .before .before .before .before .before .before .before .before .before .before .before .before .before .before .before .before .before .before .before .before .is-enough .ensures) ∙ not-false _ (c .before .before .before .before .before .before .before .before .before .before .before .before .before .before .before .before .before .before .before .before .before .before .before .before .if1 .left)) (stored-inside _ _ _ (c .before .before .before .before .before .before .before .before .before .before .before .before .before .before .before .before .before .before .before .before .before .before .before .if2 .left) (sym (c .before .before .before .before .before .before .before .before .before .before .before .before .before .before .before .before .before .before .before .before .before .before .carved-inside .ensures) ∙ not-false _ (c .before .before .before .before .before .before .before .before .before .before .before .before .before .before .before .before .before .before .before .before .before .if3 .left)) ∙ all) (rw all at (c .before .before .before .before .before .before .add-carved .ensures .0)) (rw all at (c .before .before .before .before .before .before .add-carved .ensures .1 .0))
-    (index-then _ _ _ (c .before .before .before .before .before .before .before .before .before .before .before .before .before .before .build .ensures .0) (c .before .before .before .before .before .before .before .before .before .before .before .before .before .before .build .ensures .1) all (c .before .before .before .before .before .before .add-carved .ensures .1 .1 .0) (c .before .before .before .before .before .before .add-carved .ensures .1 .1 .1))
+    comes-left _ _ _ _ e (stored-inside _ _ _ (c .before .before .before .before .before .before .before .before .before .before .before .before .before .before .before .before .before .before .before .before .before .before .before .if2 .left) (sym (c .before .before .before .before .before .before .before .before .before .before .before .before .before .before .before .before .before .before .before .before .before .before .carved-inside .ensures) ∙ not-false _ (c .before .before .before .before .before .before .before .before .before .before .before .before .before .before .before .before .before .before .before .before .before .if3 .left)) ∙ all) (rw all at used) (rw all at words) (index-then _ _ _ heads nexts all heads′ nexts′)
 
 pub seed-indexed-spec : {M : Type 1} → statement M
 seed-indexed-spec =

@@ -30,7 +30,10 @@ enum-known-i : tie.Need-enum-known-i
 enum-known-i c = search needs
 
 put-requires : tie.Need-put-requires
-put-requires c κs = omega (arith, c .before .before .before .before .before .before .before .before .before .before .before .before .before .pre .0, find-used _ _ _ (sym (probed-hit _ _ _ (c .before .before .before .before .before .probe-key .ensures) (c .before .before .before .i .given .1))))
+put-requires c κs =
+    let p = c .before .before .before .before .before in
+    let s = p .before .before .before .before .before .before .before .before in
+    omega (arith, s .pre .0, find-used _ _ _ (sym (probed-hit _ _ _ (p .probe-key .ensures) (c .before .before .before .i .given .1))))
 
 enum-known-last : tie.Need-enum-known-last
 enum-known-last c = search needs
@@ -51,7 +54,13 @@ put-requires-2 : tie.Need-put-requires-2
 put-requires-2 c κs = search needs
 
 link-requires : tie.Need-link-requires
-link-requires c κs = (omega (arith, c .before .before .before .before .before .before .before .before .before .before .before .before .before .before .if1 .left), omega (arith, c .before .before .before .before .before .before .if3 .left, c .before .before .before .before .before .before .before .before .before .before .before .before .before .before .before .before .before .before .pre .1 .1 (omega (arith, c .before .before .before .before .before .before .before .before .before .before .before .before .before .before .if1 .left))), last-within _ (probed-last _ _ _ (c .before .before .before .before .before .before .before .before .before .before .probe-key .ensures) (c .before .before .before .before .before .before .before .before .last .given .1)))
+link-requires c κs =
+    let p = c .before .before .before .before .before .before .before .before .before .before in
+    let s = p .before .before .before .before .before .before .before .before in (
+      omega (arith, p .before .before .before .before .if1 .left),
+      omega (arith, c .before .before .before .before .before .before .if3 .left, s .pre .1 .1 (omega (arith, p .before .before .before .before .if1 .left))),
+      omega (arith, last-within _ (probed-last _ _ _ (p .probe-key .ensures) (c .before .before .before .before .before .before .before .before .last .given .1))),
+    )
 
 add-t26 : tie.Need-add-t26
 add-t26 c = search needs
@@ -66,7 +75,11 @@ same-length-7 : tie.Need-same-length-7
 same-length-7 c = search needs
 
 returns-3 : tie.Need-returns-3
-returns-3 c = comes-indexed _ _ _ (add-over _ _ (probed-hit _ _ _ (c .before .before .before .before .before .before .before .before .probe-key .ensures) (c .before .before .before .before .before .before .i .given .1)) refl (c .before .before .before .before .before .before .before .before .before .before .before .before .before .before .before .before .pre .0) (c .before .before .before .before .if2 .taken)) refl (c .before .before .put .ensures) (index-over _ _ _ (omega (arith, c .before .before .before .before .before .before .before .before .before .before .before .before .if1 .left)) (c .before .before .before .before .before .before .before .before .before .before .before .before .before .before .before .before .pre .1 .0) _ _ (probed-hit _ _ _ (c .before .before .before .before .before .before .before .before .probe-key .ensures) (c .before .before .before .before .before .before .i .given .1)) (c .before .before .before .before .before .before .before .before .before .before .before .before .before .before .before .before .pre .0))
+returns-3 c =
+    let p = c .before .before .before .before .before .before .before .before in
+    let s = p .before .before .before .before .before .before .before .before in
+    let e = probed-hit _ _ _ (p .probe-key .ensures) (c .before .before .before .before .before .before .i .given .1) in
+    comes-indexed _ _ _ (add-over _ _ e refl (s .pre .0) (c .before .before .before .before .if2 .taken)) refl (c .before .before .put .ensures) (index-over _ _ _ (omega (arith, p .before .before .before .before .if1 .left)) (s .pre .1 .0) _ _ e (s .pre .0))
 
 same-length-8 : tie.Need-same-length-8
 same-length-8 c = search needs
@@ -78,7 +91,10 @@ same-length-10 : tie.Need-same-length-10
 same-length-10 c = search needs
 
 returns-4 : tie.Need-returns-4
-returns-4 c = comes-indexed _ _ _ (add-kept _ _ (probed-hit _ _ _ (c .before .before .before .before .probe-key .ensures) (c .before .before .i .given .1)) refl (c .before .before .before .before .before .before .before .before .before .before .before .before .pre .0) (c .if2 .left)) refl refl (c .before .before .before .before .before .before .before .before .before .before .before .before .pre .1 .0)
+returns-4 c =
+    let p = c .before .before .before .before in
+    let s = p .before .before .before .before .before .before .before .before in
+    comes-indexed _ _ _ (add-kept _ _ (probed-hit _ _ _ (p .probe-key .ensures) (c .before .before .i .given .1)) refl (s .pre .0) (c .if2 .left)) refl refl (s .pre .1 .0)
 
 same-length-11 : tie.Need-same-length-11
 same-length-11 c = search needs
@@ -90,7 +106,13 @@ same-length-13 : tie.Need-same-length-13
 same-length-13 c = search needs
 
 returns-5 : tie.Need-returns-5
-returns-5 c = comes-indexed _ _ _ (add-new _ _ (probed-none _ _ _ (c .before .before .before .before .before .before .before .before .before .before .before .before .before .before .before .probe-key .ensures) (c .before .before .before .before .before .before .before .before .before .before .before .before .before .last .given .1)) refl (omega (arith, c .before .before .before .before .before .before .before .before .before .before .before .if3 .left))) refl (c .before .before .before .before .before .before .before .before .before .put2 .ensures) (index-more _ _ _ (omega (arith, c .before .before .before .before .before .before .before .before .before .before .before .before .before .before .before .before .before .before .before .if1 .left)) (c .before .before .before .before .before .before .before .before .before .before .before .before .before .before .before .before .before .before .before .before .before .before .before .pre .1 .0) _ _ (probed-last _ _ _ (c .before .before .before .before .before .before .before .before .before .before .before .before .before .before .before .probe-key .ensures) (c .before .before .before .before .before .before .before .before .before .before .before .before .before .last .given .1)) (omega (arith, c .before .before .before .before .before .before .before .before .before .before .before .if3 .left)) (c .before .before .before .before .before .before .before .before .before .before .before .before .before .before .before .before .before .before .before .before .before .before .before .pre .1 .1 (omega (arith, c .before .before .before .before .before .before .before .before .before .before .before .before .before .before .before .before .before .before .before .if1 .left))) (c .before .before .before .before .link .ensures .0) (c .before .before .before .before .link .ensures .1))
+returns-5 c =
+    let p = c .before .before .before .before .before .before .before .before .before .before .before .before .before .before .before in
+    let s = p .before .before .before .before .before .before .before .before in
+    let l = c .before .before .before .before .before .before .before .before .before .before .before .before .before .last .given .1 in
+    let f = c .before .before .before .before .before .before .before .before .before .before .before .if3 .left in
+    comes-indexed _ _ _ (add-new _ _ (probed-none _ _ _ (p .probe-key .ensures) l) refl (omega (arith, f))) refl (c .before .before .before .before .before .before .before .before .before .put2 .ensures)
+    (index-more _ _ _ (omega (arith, p .before .before .before .before .if1 .left)) (s .pre .1 .0) _ _ (probed-last _ _ _ (p .probe-key .ensures) l) (omega (arith, f)) (s .pre .1 .1 (omega (arith, p .before .before .before .before .if1 .left))) (c .before .before .before .before .link .ensures .0) (c .before .before .before .before .link .ensures .1))
 
 pub add-spec : {M : Type 1} → statement M
 add-spec =

@@ -38,7 +38,7 @@ mul-nexts : tie.Need-mul-nexts Inv-loop μ-loop
 mul-nexts c = omega (arith, built-below (c .before .before .before .loop .inv) _ (c .hash-of .ensures))
 
 slice-read-nexts : tie.Need-slice-read-nexts Inv-loop μ-loop
-slice-read-nexts c = built-below (c .before .before .before .before .loop .inv) _ (c .before .hash-of .ensures)
+slice-read-nexts c = omega (arith, built-below (c .before .before .before .before .loop .inv) _ (c .before .hash-of .ensures))
 
 mul-nexts-2 : tie.Need-mul-nexts-2 Inv-loop μ-loop
 mul-nexts-2 c = omega (arith, c .before .before .before .before .loop .inv .near, c .before .before .before .before .loop .inv .room)

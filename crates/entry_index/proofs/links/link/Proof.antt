@@ -1,5 +1,4 @@
 -- First where there is no link, and behind the last one else.
-use mathlib.Core.Path.{sym}
 use native.Mathlib.Omega.{arith}
 use lib.ListN.{length}
 use Rattle.entry_index.proofs.IndexLaws.{hash-below, linked-first, linked-behind}

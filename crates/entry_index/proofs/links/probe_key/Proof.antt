@@ -17,13 +17,22 @@ hash-of-requires : tie.Need-hash-of-requires Inv-loop μ-loop
 hash-of-requires c κs = c .before .before .before .pre .0 .1
 
 mul-link : tie.Need-mul-link Inv-loop μ-loop
-mul-link c = omega (arith, walking-below (indexed-links _ _ _ (c .before .before .before .before .pre .0 .1) (c .before .before .before .before .pre .1)) _ (c .hash-of .ensures))
+mul-link c =
+    let s = c .before .before .before .before in
+    let x = indexed-links _ _ _ (s .pre .0 .1) (s .pre .1) in
+    omega (arith, walking-below x _ (c .hash-of .ensures))
 
 shared-slice-read-link : tie.Need-shared-slice-read-link Inv-loop μ-loop
-shared-slice-read-link c = walking-below (indexed-links _ _ _ (c .before .before .before .before .before .pre .0 .1) (c .before .before .before .before .before .pre .1)) _ (c .before .hash-of .ensures)
+shared-slice-read-link c =
+    let s = c .before .before .before .before .before in
+    let x = indexed-links _ _ _ (s .pre .0 .1) (s .pre .1) in
+    walking-below x _ (c .before .hash-of .ensures)
 
 loop-holds : tie.Need-loop-holds Inv-loop μ-loop
-loop-holds c = walking-start (indexed-links _ _ _ (c .before .before .before .before .before .pre .0 .1) (c .before .before .before .before .before .pre .1)) _ (c .before .hash-of .ensures)
+loop-holds c =
+    let s = c .before .before .before .before .before in
+    let x = indexed-links _ _ _ (s .pre .0 .1) (s .pre .1) in
+    walking-start x _ (c .before .hash-of .ensures)
 
 sub-i : tie.Need-sub-i Inv-loop μ-loop
 sub-i c = omega arith
@@ -35,7 +44,10 @@ same-key-requires : tie.Need-same-key-requires Inv-loop μ-loop
 same-key-requires c κs = tt
 
 returns : tie.Need-returns Inv-loop μ-loop
-returns c = walking-hit (indexed-links _ _ _ (c .before .before .before .before .before .before .before .before .before .before .pre .0 .1) (c .before .before .before .before .before .before .before .before .before .before .pre .1)) _ (c .before .before .before .before .before .before .before .before .before .before .pre .0 .2) (c .before .before .before .loop-test .taken) (c .before .before .before .before .loop .inv) (c .before .before .key-at .ensures) (c .before .same-key .ensures) (c .if1 .taken)
+returns c =
+    let s = c .before .before .before .before .before .before .before .before .before .before in
+    let x = indexed-links _ _ _ (s .pre .0 .1) (s .pre .1) in
+    walking-hit x _ (s .pre .0 .2) (c .before .before .before .loop-test .taken) (c .before .before .before .before .loop .inv) (c .before .before .key-at .ensures) (c .before .same-key .ensures) (c .if1 .taken)
 
 mul-link-2 : tie.Need-mul-link-2 Inv-loop μ-loop
 mul-link-2 c = omega (arith, c .before .before .before .before .loop .inv .within, c .before .before .before .before .before .before .before .before .before .before .pre .0 .2)
@@ -44,10 +56,16 @@ shared-slice-read-link-2 : tie.Need-shared-slice-read-link-2 Inv-loop μ-loop
 shared-slice-read-link-2 c = omega (arith, c .before .before .before .before .before .loop .inv .within, c .before .before .before .before .before .before .before .before .before .before .before .pre .0 .2)
 
 loop-less : tie.Need-loop-less Inv-loop μ-loop
-loop-less c = walking-less (indexed-links _ _ _ (c .before .before .before .before .before .before .before .before .before .before .before .pre .0 .1) (c .before .before .before .before .before .before .before .before .before .before .before .pre .1)) _ (c .before .before .before .before .before .before .before .before .before .before .before .pre .0 .2) (c .before .before .before .before .loop-test .taken) (c .before .before .before .before .before .loop .inv)
+loop-less c =
+    let s = c .before .before .before .before .before .before .before .before .before .before .before in
+    let x = indexed-links _ _ _ (s .pre .0 .1) (s .pre .1) in
+    walking-less x _ (s .pre .0 .2) (c .before .before .before .before .loop-test .taken) (c .before .before .before .before .before .loop .inv)
 
 loop-again : tie.Need-loop-again Inv-loop μ-loop
-loop-again c = walking-next (indexed-links _ _ _ (c .before .before .before .before .before .before .before .before .before .before .before .pre .0 .1) (c .before .before .before .before .before .before .before .before .before .before .before .pre .1)) _ (c .before .before .before .before .before .before .before .before .before .before .before .pre .0 .2) (c .before .before .before .before .loop-test .taken) (c .before .before .before .before .before .loop .inv) (c .before .before .before .key-at .ensures) (c .before .before .same-key .ensures) (c .before .if1 .left)
+loop-again c =
+    let s = c .before .before .before .before .before .before .before .before .before .before .before in
+    let x = indexed-links _ _ _ (s .pre .0 .1) (s .pre .1) in
+    walking-next x _ (s .pre .0 .2) (c .before .before .before .before .loop-test .taken) (c .before .before .before .before .before .loop .inv) (c .before .before .before .key-at .ensures) (c .before .before .same-key .ensures) (c .before .if1 .left)
 
 returns-2 : tie.Need-returns-2 Inv-loop μ-loop
 returns-2 c = walking-last (c .before .loop .inv) (c .loop-test .left)
