@@ -1,6 +1,6 @@
 -- The path of an entry by its parent and its own name, written behind other text.
-use Prim.Native.Nat.{ℕ, _+_, _-_}
-use mathlib.Core.List.{List, _++_}
+use Prim.Native.Nat.{ℕ, _+_, _-_, _*_, _/_}
+use mathlib.Core.List.{List, [], _∷_, _++_}
 use mathlib.Core.Bool.{Bool, cond}
 use lib.ListN.{length}
 use lib.Seq.{sets}
@@ -13,7 +13,20 @@ use Rattle.chain.specs.Chain.{Chain, chainOf}
 use Rattle.path.specs.Text.{namesText, pathText, stepText}
 use Rattle.path_index.specs.declared.Behind.{Behind}
 use Rattle.path_index.specs.declared.Behind.the-variants.{Full, To}
+use Rattle.path_index.specs.declared.ways.Bounded.{Bounded}
 use Rattle.path_index.specs.declared.ways.Measured.{Measured}
+
+-- the most bytes that a backslash and a name can take, three for each unit, and those of all names
+abbrev pub stepBound : NamePlace → ℕ
+stepBound p = 1 + 3 * (p .length / 2)
+
+unfoldable pub namesBound : List NamePlace → ℕ
+namesBound [] = 0
+namesBound (p ∷ ps) = stepBound p + namesBound ps
+
+-- the end of a chain, and the most bytes that its names can take
+abbrev pub bounded : Chain → Bounded
+bounded c = record { end = c .end; most = namesBound (c .places) }
 
 -- the end of a chain, and how many bytes its names take
 abbrev pub measured : List ℕ → List ℕ → Chain → Measured

@@ -5,23 +5,30 @@ ghost use Prim.Native.Nat.{_+_, _*_, _^_, _≤_, _<_};
 ghost use lib.ListN.{length};
 ghost use lib.Seq.{sets};
 ghost use Rattle.walk.specs.Refusals.{domain};
-ghost use Rattle.entry_table.specs.Names.{lengthsOf, allInside};
+ghost use Rattle.entry_table.specs.Names.{lengths, lengthsOf, allInside};
 ghost use Rattle.entry_table.specs.Slots.{stride, namesIn};
 ghost use Rattle.entry_table.specs.Table.{table};
 ghost use Rattle.entry_index.specs.Index.{Indexed};
 ghost use Rattle.chain.specs.Settings.{deepest};
 ghost use Rattle.chain.specs.Chain.{chain, stepOf};
 ghost use Rattle.path.specs.Text.{namesText};
-ghost use Rattle.path_index.specs.Behind.{measured};
+ghost use Rattle.path_index.specs.Behind.{stepBound, bounded, measured};
 use chain::ChainEnd;
 use chain::steps::Way;
 use chain::steps::is_root;
 use entry_index::links::find;
 use entry_table::EntryKey;
+use entry_table::NamePlace;
 use entry_table::slots::Found;
 use entry_table::slots::info_at;
 use path::text::place_length;
 use path::text::put_step;
+
+// The end of a chain, and the most bytes that its names can take, each with its backslash.
+pub struct Bounded {
+    pub end: ChainEnd,
+    pub most: usize,
+}
 
 // The end of a chain, and how many bytes its names take, each with its backslash.
 pub struct Measured {
@@ -51,6 +58,56 @@ fn step(
     match find(slots, used, heads, nexts, key) {
         Found::At(i) => Way::Slot(i),
         Found::Nothing => Way::End(ChainEnd::Unknown(key)),
+    }
+}
+
+// The most bytes that a backslash and the name at a place can take: three for each unit of UTF-16.
+pub(crate) fn most_of(place: NamePlace) -> usize
+    requires { ⌜ place .length ≤ domain ⌝ }
+    ensures { λ r. ⌜ r ≡ stepBound place ⌝ }
+{
+    1 + 3 * (place.length as usize / 2)
+}
+
+// The end of a key's chain, and the most bytes that its names can take. No byte of a name is read for it.
+pub(crate) fn bound(
+    journal_length: usize,
+    image_length: usize,
+    slots: &[u64],
+    used: usize,
+    heads: &[u64],
+    nexts: &[u64],
+    key: EntryKey,
+    levels: usize,
+) -> Bounded
+    requires { ⌜ (used * stride ≤ length (now slots)) × (0 < length (now heads) → used ≤ length (now nexts)) ⌝ }
+    requires { ⌜ Indexed (table (now slots) used) (now heads) (now nexts) ⌝ }
+    requires { ⌜ allInside (lengths «journal_length» «image_length») (namesIn (now slots) used) ≡ true ⌝ }
+    requires { ⌜ («journal_length» ≤ domain) × («image_length» ≤ domain) × (levels ≤ deepest + 1) ⌝ }
+    ensures { λ r. ⌜ r ≡ bounded (chain (table (now (slots .entry)) used) levels key) ⌝ }
+{
+    match step(slots, used, heads, nexts, key, levels) {
+        Way::End(end) => Bounded { end, most: 0 },
+        Way::Slot(i) => {
+            let info = info_at(slots, i);
+            let parent = info.parent;
+            let name = info.name;
+            let above = bound(
+                journal_length,
+                image_length,
+                slots,
+                used,
+                heads,
+                nexts,
+                parent,
+                levels - 1,
+            );
+            let end = above.end;
+            Bounded {
+                end,
+                most: above.most + most_of(name),
+            }
+        }
     }
 }
 
