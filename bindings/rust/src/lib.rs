@@ -26,7 +26,8 @@
 //!   [`carve_mft_entries`] takes an image of any length. [`carve_usn_records`], which has no way to say so, panics then;
 //!   [`try_carve_usn_records`] gives an error.
 //! - [`UsnJournalReader`] gives the same records however its source cuts the bytes, and takes no stack for rubbish.
-//! - [`RewindEngine`] goes through its table for each lookup, where the original hashes.
+//! - [`RewindEngine::insert`] and [`RewindEngine::resolve_path`] go through the table at each call, where the original hashes. Seeding and
+//!   rewinding build an index of it.
 //! - [`list_usn_journal`] tells where each record stands.
 //! - The names of [`UsnReason`] and [`FileAttributes`] are Microsoft's; the original's file of them was not at hand.
 
