@@ -115,9 +115,10 @@ struct table_seeded table_seed_entries(const uint8_t *journal, size_t journal_le
                                        size_t entries_len);
 
 /* table_seed_indexed: table_seed in time that grows with the entries, where there are slots for the used ones and for all entries;
- * otherwise the different new keys are counted, which takes the entries times the slots. heads and nexts are words for an index of the table, whatever they hold: as many heads as there are slots are a good number, and one next for each slot
- * is needed. Where there is no head, or fewer nexts than slots, the call does without an index, and does the same. What they hold
- * after it is of no use but to the call; a refused call leaves them alone.
+ * otherwise the different new keys are counted, which takes the entries times the slots. heads and nexts are words for an index of
+ * the table, whatever they hold: as many heads as there are slots are a good number, and one next for each slot is needed. Where
+ * there is no head, or fewer nexts than slots, the call does without an index, and does the same. What they hold after it is of no
+ * use but to the call; a refused call leaves them alone.
  * Refuses: 5, 9, 7 and 6 as table_seed. */
 uint32_t table_seed_indexed(const uint8_t *journal, size_t journal_len, const uint8_t *image, size_t image_len, uint64_t *slots,
                             size_t slots_len, size_t used, const uint64_t *entries, size_t entries_len, uint64_t *heads,
