@@ -37,7 +37,7 @@ pub fn is_enough(slots: usize, heads: &[u64], nexts: &[u64]) -> bool
 }
 
 // The hash of a key, below m.
-fn hash_of(m: usize, key: EntryKey) -> usize
+pub fn hash_of(m: usize, key: EntryKey) -> usize
     requires { ⌜ 0 < m ⌝ }
     ensures { λ r. ⌜ r ≡ hash m key ⌝ }
 {

@@ -9,6 +9,7 @@ ghost use Rattle.entry_index.specs.Index.{Indexed, headsAfter, nextsAfter};
 ghost use Rattle.rewind.specs.Walking.{walkedBack};
 use entry_index::links::add;
 use entry_table::Stored;
+use read_ahead::behind;
 use rewind::entries::entry_from_last;
 use rewind::entries::replaces_backward;
 
@@ -32,7 +33,9 @@ pub(crate) fn add_backward(
     let count = records.len() / 2;
     let mut now_used = used;
     let mut i: usize = 0;
+    let mut read: usize = 0;
     while i < count {
+        read = behind(journal, records, i, read, slots, heads);
         let entry = entry_from_last(journal, records, i);
         match add(
             slots,

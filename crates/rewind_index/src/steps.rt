@@ -32,6 +32,7 @@ use entry_table::slots::key_at;
 use entry_table::slots::put;
 use path_index::Behind;
 use path_index::put_behind;
+use read_ahead::ahead_of;
 use rewind::Rewind;
 use rewind::entries::RecordEntry;
 use rewind::entries::entry_at;
@@ -223,7 +224,9 @@ pub(crate) fn run(
     let mut position = rewind.position;
     let mut at: usize = 0;
     let mut i: usize = 0;
+    let mut read: usize = 0;
     while i < ends.len() {
+        read = ahead_of(journal, image, records, position, read, forward, heads);
         match run_step(
             journal,
             image,

@@ -14,15 +14,18 @@ use Rattle.rewind_index.proofs.backward.add_backward.Statement.{stateme
 use Rattle.rewind_index.proofs.backward.add_backward.Tie as tie
 
 abbrev Inv-loop : tie.InvT-loop
-Inv-loop journal records slots₀ used heads₀ nexts₀ count now-used₀ i₀ slots heads nexts now-used i = Keeping (table slots₀ used) (table slots now-used) (lastAdded journal records) count i heads₀ nexts₀ heads nexts
+Inv-loop journal records slots₀ used heads₀ nexts₀ count now-used₀ i₀ read₀ slots heads nexts now-used i read = Keeping (table slots₀ used) (table slots now-used) (lastAdded journal records) count i heads₀ nexts₀ heads nexts
 
 abbrev μ-loop : tie.MeasureT-loop
-μ-loop journal records slots₀ used heads₀ nexts₀ count now-used₀ i₀ slots heads nexts now-used i = count - i
+μ-loop journal records slots₀ used heads₀ nexts₀ count now-used₀ i₀ read₀ slots heads nexts now-used i read = count - i
 
 loop-holds : tie.Need-loop-holds Inv-loop μ-loop
 loop-holds c =
     let root = c .before .before .before .before .before in
     record { made = rows-start _ _ _ (root .pre .0); heads-kept = root .pre .1 .0 .0; nexts-kept = root .pre .1 .0 .1 }
+
+behind-requires : tie.Need-behind-requires Inv-loop μ-loop
+behind-requires c κs = tt
 
 entry-from-last-requires : tie.Need-entry-from-last-requires Inv-loop μ-loop
 entry-from-last-requires c κs = omega arith
@@ -31,7 +34,7 @@ replaces-backward-requires : tie.Need-replaces-backward-requires Inv-loop μ-loo
 replaces-backward-requires c κs = tt
 
 add-requires : tie.Need-add-requires Inv-loop μ-loop
-add-requires c κs = (omega (arith, c .before .before .before .before .before .before .loop .inv .made .rest .room), keeping-index (c .before .before .before .before .before .before .loop .inv) (c .before .before .before .before .before .before .before .before .before .before .before .before .pre .1 .1))
+add-requires c κs = (omega (arith, c .before .before .before .before .before .before .before .before .before .loop .inv .made .rest .room), keeping-index (c .before .before .before .before .before .before .before .before .before .loop .inv) (c .before .before .before .before .before .before .before .before .before .before .before .before .before .before .before .pre .1 .1))
 
 enum-known-n : tie.Need-enum-known-n Inv-loop μ-loop
 enum-known-n c = search needs
@@ -40,25 +43,25 @@ enum-known-n-2 : tie.Need-enum-known-n-2 Inv-loop μ-loop
 enum-known-n-2 c = search needs
 
 same-length : tie.Need-same-length Inv-loop μ-loop
-same-length c = absurd (rows-refused (c .before .before .before .before .before .before .before .before .before .before .before .before .before .before .before .before .loop .inv .made) (c .before .before .before .before .before .before .before .before .before .before .before .before .before .before .before .loop-test .taken) (added-backward (c .before .before .before .before .before .before .before .before .before .before .before .before .before .before .entry-from-last .ensures) (c .before .before .before .before .before .before .before .before .before .before .replaces-backward .ensures)) (c .before .before .before .before .before .before .before .before .before .add .ensures .0) (ap outcome (c .before .n2 .given .1)))
+same-length c = absurd (rows-refused (c .before .before .before .before .before .before .before .before .before .before .before .before .before .before .before .before .before .before .before .loop .inv .made) (c .before .before .before .before .before .before .before .before .before .before .before .before .before .before .before .before .before .before .loop-test .taken) (added-backward (c .before .before .before .before .before .before .before .before .before .before .before .before .before .before .entry-from-last .ensures) (c .before .before .before .before .before .before .before .before .before .before .replaces-backward .ensures)) (c .before .before .before .before .before .before .before .before .before .add .ensures .0) (ap outcome (c .before .n2 .given .1)))
 
 same-length-2 : tie.Need-same-length-2 Inv-loop μ-loop
-same-length-2 c = absurd (rows-refused (c .before .before .before .before .before .before .before .before .before .before .before .before .before .before .before .before .loop .inv .made) (c .before .before .before .before .before .before .before .before .before .before .before .before .before .before .before .loop-test .taken) (added-backward (c .before .before .before .before .before .before .before .before .before .before .before .before .before .before .entry-from-last .ensures) (c .before .before .before .before .before .before .before .before .before .before .replaces-backward .ensures)) (c .before .before .before .before .before .before .before .before .before .add .ensures .0) (ap outcome (c .before .n2 .given .1)))
+same-length-2 c = absurd (rows-refused (c .before .before .before .before .before .before .before .before .before .before .before .before .before .before .before .before .before .before .before .loop .inv .made) (c .before .before .before .before .before .before .before .before .before .before .before .before .before .before .before .before .before .before .loop-test .taken) (added-backward (c .before .before .before .before .before .before .before .before .before .before .before .before .before .before .entry-from-last .ensures) (c .before .before .before .before .before .before .before .before .before .before .replaces-backward .ensures)) (c .before .before .before .before .before .before .before .before .before .add .ensures .0) (ap outcome (c .before .n2 .given .1)))
 
 same-length-3 : tie.Need-same-length-3 Inv-loop μ-loop
-same-length-3 c = absurd (rows-refused (c .before .before .before .before .before .before .before .before .before .before .before .before .before .before .before .before .loop .inv .made) (c .before .before .before .before .before .before .before .before .before .before .before .before .before .before .before .loop-test .taken) (added-backward (c .before .before .before .before .before .before .before .before .before .before .before .before .before .before .entry-from-last .ensures) (c .before .before .before .before .before .before .before .before .before .before .replaces-backward .ensures)) (c .before .before .before .before .before .before .before .before .before .add .ensures .0) (ap outcome (c .before .n2 .given .1)))
+same-length-3 c = absurd (rows-refused (c .before .before .before .before .before .before .before .before .before .before .before .before .before .before .before .before .before .before .before .loop .inv .made) (c .before .before .before .before .before .before .before .before .before .before .before .before .before .before .before .before .before .before .loop-test .taken) (added-backward (c .before .before .before .before .before .before .before .before .before .before .before .before .before .before .entry-from-last .ensures) (c .before .before .before .before .before .before .before .before .before .before .replaces-backward .ensures)) (c .before .before .before .before .before .before .before .before .before .add .ensures .0) (ap outcome (c .before .n2 .given .1)))
 
 returns : tie.Need-returns Inv-loop μ-loop
-returns c = absurd (rows-refused (c .before .before .before .before .before .before .before .before .before .before .before .before .before .before .before .before .loop .inv .made) (c .before .before .before .before .before .before .before .before .before .before .before .before .before .before .before .loop-test .taken) (added-backward (c .before .before .before .before .before .before .before .before .before .before .before .before .before .before .entry-from-last .ensures) (c .before .before .before .before .before .before .before .before .before .before .replaces-backward .ensures)) (c .before .before .before .before .before .before .before .before .before .add .ensures .0) (ap outcome (c .before .n2 .given .1)))
+returns c = absurd (rows-refused (c .before .before .before .before .before .before .before .before .before .before .before .before .before .before .before .before .before .before .before .loop .inv .made) (c .before .before .before .before .before .before .before .before .before .before .before .before .before .before .before .before .before .before .loop-test .taken) (added-backward (c .before .before .before .before .before .before .before .before .before .before .before .before .before .before .entry-from-last .ensures) (c .before .before .before .before .before .before .before .before .before .before .replaces-backward .ensures)) (c .before .before .before .before .before .before .before .before .before .add .ensures .0) (ap outcome (c .before .n2 .given .1)))
 
 add-i : tie.Need-add-i Inv-loop μ-loop
-add-i c = omega (arith, c .before .before .before .before .before .before .before .before .before .before .before .before .before .before .before .before .before .before .before .before .before .before .good)
+add-i c = omega (arith, c .before .before .before .before .before .before .before .before .before .before .before .before .before .before .before .before .before .before .before .before .before .before .before .before .before .good)
 
 loop-less : tie.Need-loop-less Inv-loop μ-loop
 loop-less c = omega arith
 
 loop-again : tie.Need-loop-again Inv-loop μ-loop
-loop-again c = keeping-next (c .before .before .before .before .before .before .before .before .before .before .before .before .before .before .before .before .loop .inv) (c .before .before .before .before .before .before .before .before .before .before .before .before .before .before .before .loop-test .taken) (added-backward (c .before .before .before .before .before .before .before .before .before .before .before .before .before .before .entry-from-last .ensures) (c .before .before .before .before .before .before .before .before .before .before .replaces-backward .ensures)) (c .before .before .before .before .before .before .before .before .before .add .ensures) (ap outcome (c .before .n .given .1))
+loop-again c = keeping-next (c .before .before .before .before .before .before .before .before .before .before .before .before .before .before .before .before .before .before .before .loop .inv) (c .before .before .before .before .before .before .before .before .before .before .before .before .before .before .before .before .before .before .loop-test .taken) (added-backward (c .before .before .before .before .before .before .before .before .before .before .before .before .before .before .entry-from-last .ensures) (c .before .before .before .before .before .before .before .before .before .before .replaces-backward .ensures)) (c .before .before .before .before .before .before .before .before .before .add .ensures) (ap outcome (c .before .n .given .1))
 
 same-length-4 : tie.Need-same-length-4 Inv-loop μ-loop
 same-length-4 c = c .before .loop .inv .made .rest .same
@@ -79,6 +82,7 @@ add-backward-spec =
     Inv-loop
     μ-loop
     loop-holds
+    behind-requires
     entry-from-last-requires
     replaces-backward-requires
     add-requires
