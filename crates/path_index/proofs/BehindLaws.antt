@@ -1,12 +1,10 @@
 -- A path behind other text: its three parts, whether there is room for them, and the parts one behind the other. Assumes nothing.
 use Prim.Native.Nat.{ℕ, _+_, _-_, _≤_, _<_}
-use mathlib.Core.Path.{_≡_, ap, sym, _∙_}
+use mathlib.Core.Path.{_≡_, refl, ap, sym, _∙_}
 use mathlib.Core.List.{List, _++_}
-use mathlib.Core.Bool.{Bool, true, false}
 use native.Mathlib.Omega.{arith}
-use borrow.Author.Tests.{lt-ltb, le-ltb, le-leb, leb-true, leb-false}
+use borrow.Author.Tests.{lt-ltb, le-ltb}
 use lib.ListN.{length, length-append}
-use lib.Dec.{leb}
 use Rattle.utf16.proofs.PutLaws.{Put}
 use Rattle.entry_table.specs.Table.{Table}
 use Rattle.entry_table.specs.declared.EntryKey.{EntryKey}
@@ -15,13 +13,14 @@ use Rattle.chain.specs.declared.ChainEnd.{ChainEnd}
 use Rattle.chain.specs.Settings.{depth}
 use Rattle.chain.specs.Chain.{chainOf}
 use Rattle.path.specs.Text.{endText, namesText, pathText, stepText}
-use Rattle.path.proofs.MarkerLaws.{first-room, second-room, both-put}
 use Rattle.path.proofs.NameLaws.{Sources}
-use Rattle.path_index.specs.Behind.{stepBound, bounded, measured, entryText, behind, textBehind}
+use Rattle.path.proofs.MarkerLaws.{first-room, second-room, both-put}
+use Rattle.path_index.specs.Behind.{stepBound, pathBound, measured, entryText, behind, textBehind}
+use Rattle.path_index.specs.declared.Behind.{Behind}
 use Rattle.path_index.specs.declared.Behind.the-variants.{Full, To}
-use Rattle.path_index.specs.declared.ways.Bounded.{Bounded}
 use Rattle.path_index.specs.declared.ways.Measured.{Measured}
-use Rattle.path_index.proofs.BoundLaws.{step-bound, names-bound}
+use Rattle.path_index.proofs.BoundLaws.{step-bound}
+use Rattle.path_index.proofs.WayLaws.{Guarded, was-full, was-put, next-room, path-bound}
 
 module _ (journal image : List ℕ) (t : Table) (parent : EntryKey) (name : NamePlace) where
   abbrev whole : List ℕ
@@ -42,18 +41,9 @@ module _ (journal image : List ℕ) (t : Table) (parent : EntryKey) (name : Name
     whole-long : length whole ≡ length (endText e) + length names + length own
     whole-long = omega (arith, ap length two-parts, length-append (endText e ++ names) own, length-append (endText e) names)
 
-    module _ {a : ℕ} (x : a ≡ length (endText e)) (room : ℕ) where
-      -- room for the most that it can take is enough
-      pub room-bound : Sources journal image → {b : Bounded} → b ≡ bounded (chainOf t depth parent) → {l : ℕ} → l ≡ stepBound name → a + b .most + l ≤ room
-          → true ≡ leb (length whole) room
-      room-bound w y z h =
-          sym
-          (le-leb (length whole) room
-          (omega (arith, h, x, z, ap (λ (v : Bounded). v .most) y, whole-long, names-bound journal image w (chainOf t depth parent .places), step-bound journal image w name)))
-
-      -- and otherwise it is counted
-      pub room-exact : {m : Measured} → m ≡ measured journal image (chainOf t depth parent) → {l : ℕ} → l ≡ length own → leb (a + m .names + l) room ≡ leb (length whole) room
-      room-exact {m} y {l} z = ap (λ (n : ℕ). leb n room) (omega (arith, x, z, ap (λ (v : Measured). v .names) y, whole-long))
+    -- its bytes counted
+    pub counted : {a : ℕ} → a ≡ length (endText e) → {m : Measured} → m ≡ measured journal image (chainOf t depth parent) → {l : ℕ} → l ≡ length own → a + m .names + l ≡ length whole
+    counted x y z = omega (arith, x, z, ap (λ (v : Measured). v .names) y, whole-long)
 
     -- room for each part after the ones before it, and all of them
     module _ (text : List ℕ) (at : ℕ) (room : at + length whole ≤ length text) where
@@ -77,16 +67,41 @@ module _ (journal image : List ℕ) (t : Table) (parent : EntryKey) (name : Name
           pub all-put : {last : List ℕ} {end : ℕ} → Put text″ last to′ end own → Put text last at end whole
           all-put s = both-put text at (endText e ++ names) own two-parts both s
 
-  module _ (text : List ℕ) (at : ℕ) {b : Bool} (h : b ≡ leb (length whole) (length text - at)) where
-    pub behind-full : b ≡ false → (Full ≡ behind text at whole) × (text ≡ textBehind text at whole)
-    behind-full f = let q = lt-ltb (length text - at) (length whole) (leb-false _ _ (sym h ∙ f)) in (sym (rw q), sym (rw q))
+  module _ (text : List ℕ) (at : ℕ) {size : ℕ} (s : size ≡ length whole) where
+    pub behind-full : length text - at < size → (Full ≡ behind text at whole) × (text ≡ textBehind text at whole)
+    behind-full f = let q = lt-ltb (length text - at) (length whole) (omega (arith, s)) in (sym (rw q), sym (rw q))
 
-    module _ (f : b ≡ true) where
-      fits : length whole ≤ length text - at
-      fits = leb-true _ _ (sym h ∙ f)
-
+    module _ (fits : size ≤ length text - at) where
       pub behind-room : at ≤ length text → at + length whole ≤ length text
-      behind-room l = omega (arith, fits)
+      behind-room l = omega (arith, s, fits)
 
       pub behind-put : {last : List ℕ} {r : ℕ} → Put text last at r whole → (To r ≡ behind text at whole) × (last ≡ textBehind text at whole)
-      behind-put p = let q = le-ltb (length text - at) (length whole) fits in (ap To (p .0) ∙ sym (rw q), p .1 ∙ sym (rw q))
+      behind-put p = let q = le-ltb (length text - at) (length whole) (omega (arith, s, fits)) in (ap To (p .0) ∙ sym (rw q), p .1 ∙ sym (rw q))
+
+  -- where the parent's path was tried with room for the most that it and the own name can take
+  module _ {l : ℕ} (s : l ≡ stepBound name) (text : List ℕ) (at : ℕ) {r : Behind} {text′ : List ℕ}
+      (g : Guarded (pathBound (chainOf t depth parent) + l) text at (pathText journal image (chainOf t depth parent)) r text′) where
+    abbrev upper-text : List ℕ
+    upper-text = pathText journal image (chainOf t depth parent)
+
+    abbrev most : ℕ
+    most = pathBound (chainOf t depth parent) + l
+
+    own-parts : whole ≡ upper-text ++ own
+    unfolding entryText
+    own-parts = refl
+
+    module _ (w : Sources journal image) {to : ℕ} (f : r ≡ To to) where
+      few : length upper-text + length own ≤ most
+      few = omega (arith, s, path-bound journal image w (chainOf t depth parent), step-bound journal image w name)
+
+      pub tried-room : at ≤ length text → to + length own ≤ length text′
+      tried-room = next-room most text at upper-text g f own few
+
+      pub tried-put : {last : List ℕ} {z : ℕ} → Put text′ last to z own → (To z ≡ behind text at whole) × (last ≡ textBehind text at whole)
+      tried-put p =
+          let o = was-put most text at upper-text g f in
+          behind-put text at refl (omega (arith, o .0, few, ap length own-parts, length-append upper-text own)) (both-put text at upper-text own own-parts (o .1) p)
+
+    pub tried-full : r ≡ Full → {r′ : Behind} {last : List ℕ} → (r′ ≡ behind text′ at whole) × (last ≡ textBehind text′ at whole) → (r′ ≡ behind text at whole) × (last ≡ textBehind text at whole)
+    tried-full f p = let o = was-full most text at upper-text g f in rw (o .1) at p

@@ -1,3 +1,4 @@
 pub mod BoundLaws
 pub mod MeasureLaws
+pub mod WayLaws
 pub mod BehindLaws

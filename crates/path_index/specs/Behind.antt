@@ -4,16 +4,15 @@ use mathlib.Core.List.{List, [], _∷_, _++_}
 use mathlib.Core.Bool.{Bool, cond}
 use lib.ListN.{length}
 use lib.Seq.{sets}
-use lib.Dec.{ltb}
+use lib.Dec.{ltb, leb}
 use Rattle.entry_table.specs.Table.{Table}
 use Rattle.entry_table.specs.declared.EntryKey.{EntryKey}
 use Rattle.entry_table.specs.declared.NamePlace.{NamePlace}
 use Rattle.chain.specs.Settings.{depth}
 use Rattle.chain.specs.Chain.{Chain, chainOf}
-use Rattle.path.specs.Text.{namesText, pathText, stepText}
+use Rattle.path.specs.Text.{endText, namesText, pathText, stepText}
 use Rattle.path_index.specs.declared.Behind.{Behind}
 use Rattle.path_index.specs.declared.Behind.the-variants.{Full, To}
-use Rattle.path_index.specs.declared.ways.Bounded.{Bounded}
 use Rattle.path_index.specs.declared.ways.Measured.{Measured}
 
 -- the most bytes that a backslash and a name can take, three for each unit, and those of all names
@@ -24,9 +23,9 @@ unfoldable pub namesBound : List NamePlace → ℕ
 namesBound [] = 0
 namesBound (p ∷ ps) = stepBound p + namesBound ps
 
--- the end of a chain, and the most bytes that its names can take
-abbrev pub bounded : Chain → Bounded
-bounded c = record { end = c .end; most = namesBound (c .places) }
+-- the most bytes that the path of a chain can take: its end, and the names
+unfoldable pub pathBound : Chain → ℕ
+pathBound c = length (endText (c .end)) + namesBound (c .places)
 
 -- the end of a chain, and how many bytes its names take
 abbrev pub measured : List ℕ → List ℕ → Chain → Measured
@@ -46,3 +45,10 @@ behind text at more = cond (passes text at more) Full (To (at + length more))
 
 abbrev pub textBehind : List ℕ → ℕ → List ℕ → List ℕ
 textBehind text at more = cond (passes text at more) text (sets text at more)
+
+-- the same where it is written only if there is room for so many bytes, whatever it takes itself
+unfoldable pub behindIfRoom : ℕ → List ℕ → ℕ → List ℕ → Behind
+behindIfRoom most text at more = cond (leb most (length text - at)) (To (at + length more)) Full
+
+unfoldable pub textIfRoom : ℕ → List ℕ → ℕ → List ℕ → List ℕ
+textIfRoom most text at more = cond (leb most (length text - at)) (sets text at more) text

@@ -9,7 +9,6 @@ ghost use mathlib.Core.Bool.{true};
 ghost use Prim.Native.Nat.{_+_, _*_, _≤_, _<_};
 ghost use lib.ListN.{length};
 ghost use lib.Seq.{sets};
-ghost use lib.Dec.{leb};
 ghost use Rattle.walk.specs.Refusals.{domain};
 ghost use Rattle.entry_table.specs.Names.{lengthsOf, inside, allInside};
 ghost use Rattle.entry_table.specs.Slots.{stride, namesIn};
@@ -17,12 +16,11 @@ ghost use Rattle.entry_table.specs.Table.{table};
 ghost use Rattle.entry_index.specs.Index.{Indexed};
 ghost use Rattle.chain.specs.Settings.{depth};
 ghost use Rattle.chain.specs.Chain.{chainOf};
-ghost use Rattle.path_index.specs.Behind.{bounded, entryText, behind, textBehind};
-use crate::ways::Bounded;
-use crate::ways::bound;
+ghost use Rattle.path_index.specs.Behind.{entryText, behind, textBehind};
 use crate::ways::measure;
 use crate::ways::most_of;
 use crate::ways::put_names;
+use crate::ways::put_way;
 use chain::ChainEnd;
 use chain::DEPTH;
 use entry_table::EntryKey;
@@ -39,7 +37,7 @@ pub enum Behind {
 }
 
 // The path of an entry by its parent and its own name, behind the first bytes of a text. Where there is no room for it, nothing is
-// written.
+// written. Its bytes are counted only where the most that it can take does not fit.
 pub fn put_behind(
     journal: &[u8],
     image: &[u8],
@@ -60,18 +58,7 @@ pub fn put_behind(
     ensures { λ r. ⌜ r ≡ behind (now (text .entry)) at (entryText (now (journal .entry)) (now (image .entry)) (table (now (slots .entry)) used) parent name) ⌝ }
     ensures { λ _. ⌜ now (text .exit) ≡ textBehind (now (text .entry)) at (entryText (now (journal .entry)) (now (image .entry)) (table (now (slots .entry)) used) parent name) ⌝ }
 {
-    let above = bound(
-        journal.len(),
-        image.len(),
-        slots,
-        used,
-        heads,
-        nexts,
-        parent,
-        DEPTH + 1,
-    );
-    let end = above.end;
-    if !has_room(
+    match put_way(
         journal,
         image,
         slots,
@@ -79,10 +66,52 @@ pub fn put_behind(
         heads,
         nexts,
         parent,
-        name,
-        above,
-        text.len() - at,
+        DEPTH + 1,
+        most_of(name),
+        text,
+        at,
     ) {
+        Behind::To(to) => Behind::To(put_step(journal, image, name, text, to)),
+        Behind::Full => put_counted(
+            journal,
+            image,
+            slots,
+            used,
+            heads,
+            nexts,
+            parent,
+            name,
+            text,
+            at,
+        ),
+    }
+}
+
+// The same, with its bytes counted before it is written.
+fn put_counted(
+    journal: &[u8],
+    image: &[u8],
+    slots: &[u64],
+    used: usize,
+    heads: &[u64],
+    nexts: &[u64],
+    parent: EntryKey,
+    name: NamePlace,
+    text: &mut [u8],
+    at: usize,
+) -> Behind
+    requires { ⌜ (used * stride ≤ length (now slots)) × (0 < length (now heads) → used ≤ length (now nexts)) ⌝ }
+    requires { ⌜ Indexed (table (now slots) used) (now heads) (now nexts) ⌝ }
+    requires { ⌜ allInside (lengthsOf (now journal) (now image)) (namesIn (now slots) used) ≡ true ⌝ }
+    requires { ⌜ (length (now journal) ≤ domain) × (length (now image) ≤ domain) ⌝ }
+    requires { ⌜ (inside (lengthsOf (now journal) (now image)) name ≡ true) × (at ≤ length (now text)) ⌝ }
+    ensures { λ r. ⌜ r ≡ behind (now (text .entry)) at (entryText (now (journal .entry)) (now (image .entry)) (table (now (slots .entry)) used) parent name) ⌝ }
+    ensures { λ _. ⌜ now (text .exit) ≡ textBehind (now (text .entry)) at (entryText (now (journal .entry)) (now (image .entry)) (table (now (slots .entry)) used) parent name) ⌝ }
+{
+    let above = measure(journal, image, slots, used, heads, nexts, parent, DEPTH + 1);
+    let end = above.end;
+    let size = end_length(end) + above.names + step_length(journal, image, name);
+    if text.len() - at < size {
         return Behind::Full;
     }
     Behind::To(put_entry(
@@ -98,35 +127,6 @@ pub fn put_behind(
         text,
         at,
     ))
-}
-
-// Whether the path of an entry takes no more than room bytes. They are counted only where room is less than the most that it can
-// take.
-fn has_room(
-    journal: &[u8],
-    image: &[u8],
-    slots: &[u64],
-    used: usize,
-    heads: &[u64],
-    nexts: &[u64],
-    parent: EntryKey,
-    name: NamePlace,
-    above: Bounded,
-    room: usize,
-) -> bool
-    requires { ⌜ (used * stride ≤ length (now slots)) × (0 < length (now heads) → used ≤ length (now nexts)) ⌝ }
-    requires { ⌜ Indexed (table (now slots) used) (now heads) (now nexts) ⌝ }
-    requires { ⌜ allInside (lengthsOf (now journal) (now image)) (namesIn (now slots) used) ≡ true ⌝ }
-    requires { ⌜ (length (now journal) ≤ domain) × (length (now image) ≤ domain) ⌝ }
-    requires { ⌜ (inside (lengthsOf (now journal) (now image)) name ≡ true) × (above ≡ bounded (chainOf (table (now slots) used) depth parent)) ⌝ }
-    ensures { λ r. ⌜ r ≡ leb (length (entryText (now (journal .entry)) (now (image .entry)) (table (now (slots .entry)) used) parent name)) room ⌝ }
-{
-    let end = above.end;
-    if end_length(end) + above.most + most_of(name) <= room {
-        return true;
-    }
-    let exact = measure(journal, image, slots, used, heads, nexts, parent, DEPTH + 1);
-    end_length(end) + exact.names + step_length(journal, image, name) <= room
 }
 
 // The path of an entry, of which the end is known, behind the first bytes of a text, which has room for it.

@@ -5,14 +5,16 @@ ghost use Prim.Native.Nat.{_+_, _*_, _^_, _≤_, _<_};
 ghost use lib.ListN.{length};
 ghost use lib.Seq.{sets};
 ghost use Rattle.walk.specs.Refusals.{domain};
-ghost use Rattle.entry_table.specs.Names.{lengths, lengthsOf, allInside};
+ghost use Rattle.entry_table.specs.Names.{lengthsOf, allInside};
 ghost use Rattle.entry_table.specs.Slots.{stride, namesIn};
 ghost use Rattle.entry_table.specs.Table.{table};
 ghost use Rattle.entry_index.specs.Index.{Indexed};
 ghost use Rattle.chain.specs.Settings.{deepest};
 ghost use Rattle.chain.specs.Chain.{chain, stepOf};
-ghost use Rattle.path.specs.Text.{namesText};
-ghost use Rattle.path_index.specs.Behind.{stepBound, bounded, measured};
+ghost use Rattle.path.specs.Text.{endText, namesText, pathText};
+ghost use Rattle.path.proofs.NameLaws.{stepMost};
+ghost use Rattle.path_index.specs.Behind.{stepBound, pathBound, measured, behindIfRoom, textIfRoom};
+use crate::Behind;
 use chain::ChainEnd;
 use chain::steps::Way;
 use chain::steps::is_root;
@@ -21,14 +23,10 @@ use entry_table::EntryKey;
 use entry_table::NamePlace;
 use entry_table::slots::Found;
 use entry_table::slots::info_at;
+use path::text::end_length;
 use path::text::place_length;
+use path::text::put_end;
 use path::text::put_step;
-
-// The end of a chain, and the most bytes that its names can take, each with its backslash.
-pub struct Bounded {
-    pub end: ChainEnd,
-    pub most: usize,
-}
 
 // The end of a chain, and how many bytes its names take, each with its backslash.
 pub struct Measured {
@@ -69,43 +67,64 @@ pub(crate) fn most_of(place: NamePlace) -> usize
     1 + 3 * (place.length as usize / 2)
 }
 
-// The end of a key's chain, and the most bytes that its names can take. No byte of a name is read for it.
-pub(crate) fn bound(
-    journal_length: usize,
-    image_length: usize,
+// The end of a chain behind the first bytes of a text, where there is room for it and for `below` bytes more. Otherwise nothing
+// is written.
+fn put_top(end: ChainEnd, below: usize, text: &mut [u8], at: usize) -> Behind
+    requires { ⌜ (below < 2 ^ 62) × (at ≤ length (now text)) ⌝ }
+    ensures { λ r. ⌜ r ≡ behindIfRoom (length (endText end) + below) (now (text .entry)) at (endText end) ⌝ }
+    ensures { λ _. ⌜ now (text .exit) ≡ textIfRoom (length (endText end) + below) (now (text .entry)) at (endText end) ⌝ }
+{
+    if text.len() - at < end_length(end) + below {
+        return Behind::Full;
+    }
+    Behind::To(put_end(text, at, end))
+}
+
+// The path of a key behind the first bytes of a text, where there is room for the most that it can take and for `below` bytes
+// more. Otherwise nothing is written. Each call adds what its name can take; the top knows whether all of it has room and writes
+// the end, and the names follow on the way back.
+pub(crate) fn put_way(
+    journal: &[u8],
+    image: &[u8],
     slots: &[u64],
     used: usize,
     heads: &[u64],
     nexts: &[u64],
     key: EntryKey,
     levels: usize,
-) -> Bounded
+    below: usize,
+    text: &mut [u8],
+    at: usize,
+) -> Behind
     requires { ⌜ (used * stride ≤ length (now slots)) × (0 < length (now heads) → used ≤ length (now nexts)) ⌝ }
     requires { ⌜ Indexed (table (now slots) used) (now heads) (now nexts) ⌝ }
-    requires { ⌜ allInside (lengths «journal_length» «image_length») (namesIn (now slots) used) ≡ true ⌝ }
-    requires { ⌜ («journal_length» ≤ domain) × («image_length» ≤ domain) × (levels ≤ deepest + 1) ⌝ }
-    ensures { λ r. ⌜ r ≡ bounded (chain (table (now (slots .entry)) used) levels key) ⌝ }
+    requires { ⌜ allInside (lengthsOf (now journal) (now image)) (namesIn (now slots) used) ≡ true ⌝ }
+    requires { ⌜ (length (now journal) ≤ domain) × (length (now image) ≤ domain) ⌝ }
+    requires { ⌜ (below + levels * stepMost < 2 ^ 62) × (at ≤ length (now text)) ⌝ }
+    ensures { λ r. ⌜ r ≡ behindIfRoom (pathBound (chain (table (now (slots .entry)) used) levels key) + below) (now (text .entry)) at (pathText (now (journal .entry)) (now (image .entry)) (chain (table (now (slots .entry)) used) levels key)) ⌝ }
+    ensures { λ _. ⌜ now (text .exit) ≡ textIfRoom (pathBound (chain (table (now (slots .entry)) used) levels key) + below) (now (text .entry)) at (pathText (now (journal .entry)) (now (image .entry)) (chain (table (now (slots .entry)) used) levels key)) ⌝ }
 {
     match step(slots, used, heads, nexts, key, levels) {
-        Way::End(end) => Bounded { end, most: 0 },
+        Way::End(end) => put_top(end, below, text, at),
         Way::Slot(i) => {
             let info = info_at(slots, i);
             let parent = info.parent;
             let name = info.name;
-            let above = bound(
-                journal_length,
-                image_length,
+            match put_way(
+                journal,
+                image,
                 slots,
                 used,
                 heads,
                 nexts,
                 parent,
                 levels - 1,
-            );
-            let end = above.end;
-            Bounded {
-                end,
-                most: above.most + most_of(name),
+                below + most_of(name),
+                text,
+                at,
+            ) {
+                Behind::To(to) => Behind::To(put_step(journal, image, name, text, to)),
+                Behind::Full => Behind::Full,
             }
         }
     }

@@ -1,47 +1,71 @@
--- By whether there is room.
-use mathlib.Core.Path.{ap}
+-- By whether the most that the path can take has room: then the own name goes behind the parent's path, and otherwise the bytes are counted.
 use native.Mathlib.Omega.{arith}
-use borrow.Author.Tests.{not-true, not-false}
 use Rattle.entry_table.specs.Table.{table}
-use Rattle.path_index.specs.declared.ways.Bounded.{Bounded}
-use Rattle.path_index.proofs.BehindLaws.{behind-full, behind-room, behind-put}
+use Rattle.path.proofs.NameLaws.{Sources}
+use Rattle.path_index.proofs.BoundLaws.{inside-short}
+use Rattle.path_index.proofs.BehindLaws.{tried-room, tried-put, tried-full}
 use borrow.Author.Needs.{needs}
 use Rattle.path_index.proofs.put_behind.Statement.{statement}
 use Rattle.path_index.proofs.put_behind.Tie as tie
 
-add-bound : tie.Need-add-bound
-add-bound c = search needs
+add-put-way : tie.Need-add-put-way
+add-put-way c = search needs
 
-bound-requires : tie.Need-bound-requires
-bound-requires c κs = (c .before .before .before .before .before .before .pre .0, (c .before .before .before .before .before .before .pre .1 .0, (c .before .before .before .before .before .before .pre .1 .1 .0, (c .before .before .before .before .before .before .pre .1 .1 .1 .0 .0, c .before .before .before .before .before .before .pre .1 .1 .1 .0 .1, omega arith))))
+most-of-requires : tie.Need-most-of-requires
+most-of-requires c κs = let a = c .before .before .before .before .before .before .args in
+    let q = c .before .before .before .before .before .before .pre .1 .1 .1 in
+    inside-short (a .journal .now) (a .image .now) (a .name) (q .1 .0) (q .0 .0) (q .0 .1)
 
-sub-has-room : tie.Need-sub-has-room
-sub-has-room c = search needs
+put-way-requires : tie.Need-put-way-requires
+put-way-requires c κs = let a = c .before .before .before .before .before .before .before .before .args in
+    let q = c .before .before .before .before .before .before .before .before .pre in
+    let short = inside-short (a .journal .now) (a .image .now) (a .name) (q .1 .1 .1 .1 .0) (q .1 .1 .1 .0 .0) (q .1 .1 .1 .0 .1) in
+    (q .0, (q .1 .0, (q .1 .1 .0, (q .1 .1 .1 .0, (omega (arith, c .before .most-of .ensures, short), q .1 .1 .1 .1 .1)))))
 
-has-room-requires : tie.Need-has-room-requires
-has-room-requires c κs = (c .before .before .before .before .before .before .before .pre .0, (c .before .before .before .before .before .before .before .pre .1 .0, (c .before .before .before .before .before .before .before .pre .1 .1 .0, (c .before .before .before .before .before .before .before .pre .1 .1 .1 .0, (c .before .before .before .before .before .before .before .pre .1 .1 .1 .1 .0, c .bound .ensures)))))
+enum-known-to : tie.Need-enum-known-to
+enum-known-to c = search needs
 
-returns : tie.Need-returns
-returns c = behind-full (c .before .before .before .before .before .before .before .before .before .args .journal .now) (c .before .before .before .before .before .before .before .before .before .args .image .now) (table (c .before .before .before .before .before .before .before .before .before .args .slots .now) (c .before .before .before .before .before .before .before .before .before .args .used)) (c .before .before .before .before .before .before .before .before .before .args .parent) (c .before .before .before .before .before .before .before .before .before .args .name) (c .before .before .before .before .before .before .before .before .before .args .text .now) (c .before .before .before .before .before .before .before .before .before .args .at) (c .before .has-room .ensures) (not-true _ (c .if1 .taken))
+put-step-requires : tie.Need-put-step-requires
+put-step-requires c κs = let a = c .before .before .before .before .before .before .before .before .before .before .before .before .before .before .before .args in
+    let q = c .before .before .before .before .before .before .before .before .before .before .before .before .before .before .before .pre .1 .1 .1 in
+    let w : Sources (a .journal .now) (a .image .now) = record { journalLong = q .0 .0; imageLong = q .0 .1; journalBytes = λ i. omega (arith, c .before .before .before .before .before .before .before .before .before .before .before .before .before .before .shared-slice-known .given i); imageBytes = λ i. omega (arith, c .before .before .before .before .before .before .before .before .before .before .before .before .before .shared-slice-known2 .given i) } in
+    (q .1 .0, tried-room (a .journal .now) (a .image .now) (table (a .slots .now) (a .used)) (a .parent) (a .name) (c .before .before .before .before .before .before .before .before .most-of .ensures) (a .text .now) (a .at) (c .before .before .before .before .before .before .put-way .ensures) w (c .before .before .to .given .1) (q .1 .1))
 
-put-entry-requires : tie.Need-put-entry-requires
-put-entry-requires c κs = (c .before .before .before .before .before .before .before .before .before .before .pre .0, (c .before .before .before .before .before .before .before .before .before .before .pre .1 .0, (c .before .before .before .before .before .before .before .before .before .before .pre .1 .1 .0, ((c .before .before .before .before .before .before .before .before .before .before .pre .1 .1 .1 .1 .0, ap (λ (x : Bounded). x .end) (c .before .before .before .bound .ensures)), behind-room (c .before .before .before .before .before .before .before .before .before .before .args .journal .now) (c .before .before .before .before .before .before .before .before .before .before .args .image .now) (table (c .before .before .before .before .before .before .before .before .before .before .args .slots .now) (c .before .before .before .before .before .before .before .before .before .before .args .used)) (c .before .before .before .before .before .before .before .before .before .before .args .parent) (c .before .before .before .before .before .before .before .before .before .before .args .name) (c .before .before .before .before .before .before .before .before .before .before .args .text .now) (c .before .before .before .before .before .before .before .before .before .before .args .at) (c .before .before .has-room .ensures) (not-false _ (c .before .if1 .left)) (c .before .before .before .before .before .before .before .before .before .before .pre .1 .1 .1 .1 .1)))))
+enum-told : tie.Need-enum-told
+enum-told c = search needs
+
+put-counted-requires : tie.Need-put-counted-requires
+put-counted-requires c κs = let q = c .before .before .before .before .before .before .before .before .before .before .before .before .before .before .pre in
+    (q .0, (q .1 .0, (q .1 .1 .0, (q .1 .1 .1 .0, (q .1 .1 .1 .1 .0, omega (arith, q .1 .1 .1 .1 .1, c .before .before .before .before .before .put-way .kept .1 .1 .1 .1 .1 .1 .1 .1 .1 .0))))))
 
 same-length : tie.Need-same-length
 same-length c = search needs
 
+returns : tie.Need-returns
+returns c = let a = c .before .before .before .before .before .before .before .before .before .before .before .before .before .before .before .before .before .before .args in
+    let q = c .before .before .before .before .before .before .before .before .before .before .before .before .before .before .before .before .before .before .pre .1 .1 .1 in
+    let w : Sources (a .journal .now) (a .image .now) = record { journalLong = q .0 .0; imageLong = q .0 .1; journalBytes = λ i. omega (arith, c .before .before .before .before .before .before .before .before .before .before .before .before .before .before .before .before .before .shared-slice-known .given i); imageBytes = λ i. omega (arith, c .before .before .before .before .before .before .before .before .before .before .before .before .before .before .before .before .shared-slice-known2 .given i) } in
+    tried-put (a .journal .now) (a .image .now) (table (a .slots .now) (a .used)) (a .parent) (a .name) (c .before .before .before .before .before .before .before .before .before .before .before .most-of .ensures) (a .text .now) (a .at) (c .before .before .before .before .before .before .before .before .before .put-way .ensures) w (c .before .before .before .before .before .to .given .1) (c .before .before .put-step .ensures)
+
+same-length-2 : tie.Need-same-length-2
+same-length-2 c = search needs
+
 returns-2 : tie.Need-returns-2
-returns-2 c = behind-put (c .before .before .before .before .before .before .before .before .before .before .before .before .before .args .journal .now) (c .before .before .before .before .before .before .before .before .before .before .before .before .before .args .image .now) (table (c .before .before .before .before .before .before .before .before .before .before .before .before .before .args .slots .now) (c .before .before .before .before .before .before .before .before .before .before .before .before .before .args .used)) (c .before .before .before .before .before .before .before .before .before .before .before .before .before .args .parent) (c .before .before .before .before .before .before .before .before .before .before .before .before .before .args .name) (c .before .before .before .before .before .before .before .before .before .before .before .before .before .args .text .now) (c .before .before .before .before .before .before .before .before .before .before .before .before .before .args .at) (c .before .before .before .before .before .has-room .ensures) (not-false _ (c .before .before .before .before .if1 .left)) (c .before .before .put-entry .ensures)
+returns-2 c = let a = c .before .before .before .before .before .before .before .before .before .before .before .before .before .before .before .before .before .args in
+    tried-full (a .journal .now) (a .image .now) (table (a .slots .now) (a .used)) (a .parent) (a .name) (c .before .before .before .before .before .before .before .before .before .before .most-of .ensures) (a .text .now) (a .at) (c .before .before .before .before .before .before .before .before .put-way .ensures) (c .before .before .before .before .enum-told .given .1) (c .before .before .put-counted .ensures)
 
 pub put-behind-spec : {M : Type 1} → statement M
 put-behind-spec =
     tie.close
     (tie.spec
-    add-bound
-    bound-requires
-    sub-has-room
-    has-room-requires
-    returns
-    put-entry-requires
+    add-put-way
+    most-of-requires
+    put-way-requires
+    enum-known-to
+    put-step-requires
+    enum-told
+    put-counted-requires
     same-length
+    returns
+    same-length-2
     returns-2)
