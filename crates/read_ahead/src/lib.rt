@@ -11,6 +11,8 @@ use entry_table::EntryKey;
 use entry_table::names::JOURNAL;
 use entry_table::slots::STRIDE;
 use entry_table::slots::info_at;
+use entry_table::slots::key_at;
+use entry_table::slots::same_key;
 use usn_record::bytes::byte_at;
 use usn_record::bytes::le_u16;
 use usn_record::bytes::le_u64;
@@ -71,6 +73,25 @@ fn link_of(heads: &[u64], key: EntryKey) -> u64
     heads[hash_of(heads.len(), key)]
 }
 
+// A link, or the next one where its slot has another key.
+fn followed(slots: &[u64], nexts: &[u64], link: u64, key: EntryKey) -> u64 {
+    let count = slots.len() / STRIDE;
+    let i = link as usize;
+    if i == 0 {
+        return 0;
+    }
+    if count < i {
+        return 0;
+    }
+    if same_key(key_at(slots, i - 1), key) {
+        return link;
+    }
+    if nexts.len() < i {
+        return 0;
+    }
+    nexts[i - 1]
+}
+
 // What a link leads to that leads nowhere.
 fn nothing() -> Met
     ensures { λ r. ⌜ r .slots ≡ 0 ⌝ }
@@ -117,7 +138,20 @@ fn name_of(journal: &[u8], image: &[u8], slots: &[u64], link: u64) -> u8 {
     byte_at(image, name.offset as usize)
 }
 
-// The keys of n records from one on.
+// A key behind m others, unless it is the last one of them; how many there are then.
+fn add_key(keys: &mut [u64; KEY_WORDS], m: usize, last: EntryKey, key: EntryKey) -> usize
+    requires { ⌜ m < 32 ⌝ }
+    ensures { λ r. ⌜ r ≤ m + 1 ⌝ }
+{
+    if same_key(last, key) {
+        return m;
+    }
+    keys[m * 2] = key.entry;
+    keys[m * 2 + 1] = key.sequence;
+    m + 1
+}
+
+// The keys of n records from one on, those that are not that of the record before; how many they are.
 fn take_keys(
     journal: &[u8],
     records: &[usize],
@@ -125,16 +159,23 @@ fn take_keys(
     n: usize,
     folders: bool,
     keys: &mut [u64; KEY_WORDS],
-)
+) -> usize
     requires { ⌜ (from + n ≤ length (now records) / 2) × (n ≤ 32) ⌝ }
+    ensures { λ r. ⌜ r ≤ 32 ⌝ }
 {
+    let mut last = EntryKey {
+        entry: 0,
+        sequence: 0,
+    };
+    let mut m: usize = 0;
     let mut x: usize = 0;
     while x < n {
         let key = key_of(journal, records[(from + x) * 2], folders);
-        keys[x * 2] = key.entry;
-        keys[x * 2 + 1] = key.sequence;
+        m = add_key(keys, m, last, key);
+        last = key;
         x += 1;
     }
+    m
 }
 
 // The first links of n keys.
@@ -148,6 +189,28 @@ fn take_links(heads: &[u64], n: usize, keys: &[u64; KEY_WORDS], links: &mut [u64
             sequence: keys[x * 2 + 1],
         };
         links[x] = link_of(heads, key);
+        x += 1;
+    }
+}
+
+// The links of n keys: where the slot of the first one has another key, the next one.
+fn follow_links(
+    slots: &[u64],
+    nexts: &[u64],
+    n: usize,
+    keys: &[u64; KEY_WORDS],
+    links: &mut [u64; BATCH],
+)
+    requires { ⌜ n ≤ 32 ⌝ }
+{
+    let mut x: usize = 0;
+    while x < n {
+        let key = EntryKey {
+            entry: keys[x * 2],
+            sequence: keys[x * 2 + 1],
+        };
+        let link = links[x];
+        links[x] = followed(slots, nexts, link, key);
         x += 1;
     }
 }
@@ -193,6 +256,7 @@ fn read_batch(
     n: usize,
     slots: &[u64],
     heads: &[u64],
+    nexts: &[u64],
     levels: usize,
 ) -> usize
     requires { ⌜ (from + n ≤ length (now records) / 2) × (n ≤ 32) ⌝ }
@@ -200,15 +264,16 @@ fn read_batch(
 {
     let mut keys = [0u64; KEY_WORDS];
     let mut links = [0u64; BATCH];
-    take_keys(journal, records, from, n, false, &mut keys);
-    take_links(heads, n, &keys, &mut links);
-    let mut met = take_parents(slots, n, &links, &mut keys);
-    take_keys(journal, records, from, n, true, &mut keys);
+    let files = take_keys(journal, records, from, n, false, &mut keys);
+    take_links(heads, files, &keys, &mut links);
+    let mut met = take_parents(slots, files, &links, &mut keys);
+    let folders = take_keys(journal, records, from, n, true, &mut keys);
     let mut level: usize = 0;
     while level < levels {
-        take_links(heads, n, &keys, &mut links);
-        met += take_parents(slots, n, &links, &mut keys);
-        met += take_names(journal, image, slots, n, &links);
+        take_links(heads, folders, &keys, &mut links);
+        follow_links(slots, nexts, folders, &keys, &mut links);
+        met += take_parents(slots, folders, &links, &mut keys);
+        met += take_names(journal, image, slots, folders, &links);
         level += 1;
     }
     met
@@ -224,6 +289,7 @@ pub fn ahead_of(
     done: usize,
     slots: &[u64],
     heads: &[u64],
+    nexts: &[u64],
 ) -> usize {
     if position < done {
         return done;
@@ -238,7 +304,17 @@ pub fn ahead_of(
         return records.len();
     }
     let n = batch_of(records.len() / 2 - position);
-    let met = read_batch(journal, image, records, position, n, slots, heads, LEVELS);
+    let met = read_batch(
+        journal,
+        image,
+        records,
+        position,
+        n,
+        slots,
+        heads,
+        nexts,
+        LEVELS,
+    );
     if met == 0 {
         return position + 1;
     }
@@ -254,6 +330,7 @@ pub fn behind(
     done: usize,
     slots: &[u64],
     heads: &[u64],
+    nexts: &[u64],
 ) -> usize {
     if position < done {
         return done;
@@ -269,7 +346,17 @@ pub fn behind(
     }
     let left = records.len() / 2 - position;
     let n = batch_of(left);
-    let met = read_batch(journal, journal, records, left - n, n, slots, heads, 0);
+    let met = read_batch(
+        journal,
+        journal,
+        records,
+        left - n,
+        n,
+        slots,
+        heads,
+        nexts,
+        0,
+    );
     if met == 0 {
         return position + 1;
     }

@@ -35,7 +35,7 @@ pub(crate) fn add_backward(
     let mut i: usize = 0;
     let mut read: usize = 0;
     while i < count {
-        read = behind(journal, records, i, read, slots, heads);
+        read = behind(journal, records, i, read, slots, heads, nexts);
         let entry = entry_from_last(journal, records, i);
         match add(
             slots,

@@ -226,7 +226,16 @@ pub(crate) fn run(
     let mut i: usize = 0;
     let mut read: usize = 0;
     while i < ends.len() {
-        read = ahead_of(journal, image, records, position, read, forward, heads);
+        read = ahead_of(
+            journal,
+            image,
+            records,
+            position,
+            read,
+            forward,
+            heads,
+            nexts,
+        );
         match run_step(
             journal,
             image,

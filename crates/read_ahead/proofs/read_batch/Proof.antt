@@ -6,11 +6,11 @@ use Rattle.read_ahead.proofs.read_batch.Statement.{statement}
 use Rattle.read_ahead.proofs.read_batch.Tie as tie
 
 abbrev Inv-loop : tie.InvT-loop
-Inv-loop journal image records from n slots heads levels keys₀ links₀ met₀ level₀ keys links met level =
-    ((level ≤ levels) × (levels ≤ 4)) × ((n ≤ 32) × (met ≤ 32 + 8192 * level))
+Inv-loop journal image records from n slots heads nexts levels keys₀ links₀ files met₀ folders level₀ keys links met level =
+    ((level ≤ levels) × (levels ≤ 4)) × ((folders ≤ 32) × (met ≤ 32 + 8192 * level))
 
 abbrev μ-loop : tie.MeasureT-loop
-μ-loop journal image records from n slots heads levels keys₀ links₀ met₀ level₀ keys links met level =
+μ-loop journal image records from n slots heads nexts levels keys₀ links₀ files met₀ folders level₀ keys links met level =
     levels - level
 
 take-keys-requires : tie.Need-take-keys-requires Inv-loop μ-loop
@@ -31,14 +31,17 @@ loop-holds c = omega arith
 take-links-requires-2 : tie.Need-take-links-requires-2 Inv-loop μ-loop
 take-links-requires-2 c κs = search needs
 
+follow-links-requires : tie.Need-follow-links-requires Inv-loop μ-loop
+follow-links-requires c κs = search needs
+
 take-parents-requires-2 : tie.Need-take-parents-requires-2 Inv-loop μ-loop
-take-parents-requires-2 c κs = omega arith
+take-parents-requires-2 c κs = search needs
 
 add-met : tie.Need-add-met Inv-loop μ-loop
 add-met c = omega arith
 
 take-names-requires : tie.Need-take-names-requires Inv-loop μ-loop
-take-names-requires c κs = omega arith
+take-names-requires c κs = search needs
 
 add-met-2 : tie.Need-add-met-2 Inv-loop μ-loop
 add-met-2 c = omega arith
@@ -67,6 +70,7 @@ read-batch-spec =
     take-keys-requires-2
     loop-holds
     take-links-requires-2
+    follow-links-requires
     take-parents-requires-2
     add-met
     take-names-requires

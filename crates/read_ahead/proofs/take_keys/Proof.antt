@@ -1,15 +1,15 @@
--- The invariant: no more than n are taken.
-use borrow.Author.Needs.{needs}
+-- The invariant: there are no more keys than records.
 use Prim.Native.Nat.{_≤_, _-_}
 use native.Mathlib.Omega.{arith}
+use borrow.Author.Needs.{needs}
 use Rattle.read_ahead.proofs.take_keys.Statement.{statement}
 use Rattle.read_ahead.proofs.take_keys.Tie as tie
 
 abbrev Inv-loop : tie.InvT-loop
-Inv-loop journal records from n folders keys₀ x₀ keys x = x ≤ n
+Inv-loop journal records from n folders keys₀ last₀ m₀ x₀ keys last m x = (x ≤ n) × (m ≤ x)
 
 abbrev μ-loop : tie.MeasureT-loop
-μ-loop journal records from n folders keys₀ x₀ keys x = n - x
+μ-loop journal records from n folders keys₀ last₀ m₀ x₀ keys last m x = n - x
 
 loop-holds : tie.Need-loop-holds Inv-loop μ-loop
 loop-holds c = omega arith
@@ -29,26 +29,8 @@ shared-slice-read-key-of c = omega arith
 key-of-requires : tie.Need-key-of-requires Inv-loop μ-loop
 key-of-requires c κs = search needs
 
-mul-keys : tie.Need-mul-keys Inv-loop μ-loop
-mul-keys c = omega arith
-
-mul-keys-2 : tie.Need-mul-keys-2 Inv-loop μ-loop
-mul-keys-2 c = omega arith
-
-element-write-keys : tie.Need-element-write-keys Inv-loop μ-loop
-element-write-keys c = omega arith
-
-mul-keys-3 : tie.Need-mul-keys-3 Inv-loop μ-loop
-mul-keys-3 c = omega arith
-
-add-keys : tie.Need-add-keys Inv-loop μ-loop
-add-keys c = omega arith
-
-mul-keys-4 : tie.Need-mul-keys-4 Inv-loop μ-loop
-mul-keys-4 c = omega arith
-
-element-write-keys-2 : tie.Need-element-write-keys-2 Inv-loop μ-loop
-element-write-keys-2 c = omega arith
+add-key-requires : tie.Need-add-key-requires Inv-loop μ-loop
+add-key-requires c κs = search needs
 
 add-x : tie.Need-add-x Inv-loop μ-loop
 add-x c = omega arith
@@ -74,13 +56,7 @@ take-keys-spec =
     mul-key-of-2
     shared-slice-read-key-of
     key-of-requires
-    mul-keys
-    mul-keys-2
-    element-write-keys
-    mul-keys-3
-    add-keys
-    mul-keys-4
-    element-write-keys-2
+    add-key-requires
     add-x
     loop-less
     loop-again

@@ -34,7 +34,7 @@ replaces-backward-requires : tie.Need-replaces-backward-requires Inv-loop μ-loo
 replaces-backward-requires c κs = tt
 
 add-requires : tie.Need-add-requires Inv-loop μ-loop
-add-requires c κs = (omega (arith, c .before .before .before .before .before .before .before .before .before .loop .inv .made .rest .room), keeping-index (c .before .before .before .before .before .before .before .before .before .loop .inv) (c .before .before .before .before .before .before .before .before .before .before .before .before .before .before .before .pre .1 .1))
+add-requires c κs = (omega (arith, c .before .before .before .before .before .before .before .before .before .before .loop .inv .made .rest .room), keeping-index (c .before .before .before .before .before .before .before .before .before .before .loop .inv) (c .before .before .before .before .before .before .before .before .before .before .before .before .before .before .before .before .pre .1 .1))
 
 enum-known-n : tie.Need-enum-known-n Inv-loop μ-loop
 enum-known-n c = search needs
@@ -43,25 +43,25 @@ enum-known-n-2 : tie.Need-enum-known-n-2 Inv-loop μ-loop
 enum-known-n-2 c = search needs
 
 same-length : tie.Need-same-length Inv-loop μ-loop
-same-length c = absurd (rows-refused (c .before .before .before .before .before .before .before .before .before .before .before .before .before .before .before .before .before .before .before .loop .inv .made) (c .before .before .before .before .before .before .before .before .before .before .before .before .before .before .before .before .before .before .loop-test .taken) (added-backward (c .before .before .before .before .before .before .before .before .before .before .before .before .before .before .entry-from-last .ensures) (c .before .before .before .before .before .before .before .before .before .before .replaces-backward .ensures)) (c .before .before .before .before .before .before .before .before .before .add .ensures .0) (ap outcome (c .before .n2 .given .1)))
+same-length c = absurd (rows-refused (c .before .before .before .before .before .before .before .before .before .before .before .before .before .before .before .before .before .before .before .before .loop .inv .made) (c .before .before .before .before .before .before .before .before .before .before .before .before .before .before .before .before .before .before .before .loop-test .taken) (added-backward (c .before .before .before .before .before .before .before .before .before .before .before .before .before .before .entry-from-last .ensures) (c .before .before .before .before .before .before .before .before .before .before .replaces-backward .ensures)) (c .before .before .before .before .before .before .before .before .before .add .ensures .0) (ap outcome (c .before .n2 .given .1)))
 
 same-length-2 : tie.Need-same-length-2 Inv-loop μ-loop
-same-length-2 c = absurd (rows-refused (c .before .before .before .before .before .before .before .before .before .before .before .before .before .before .before .before .before .before .before .loop .inv .made) (c .before .before .before .before .before .before .before .before .before .before .before .before .before .before .before .before .before .before .loop-test .taken) (added-backward (c .before .before .before .before .before .before .before .before .before .before .before .before .before .before .entry-from-last .ensures) (c .before .before .before .before .before .before .before .before .before .before .replaces-backward .ensures)) (c .before .before .before .before .before .before .before .before .before .add .ensures .0) (ap outcome (c .before .n2 .given .1)))
+same-length-2 c = absurd (rows-refused (c .before .before .before .before .before .before .before .before .before .before .before .before .before .before .before .before .before .before .before .before .loop .inv .made) (c .before .before .before .before .before .before .before .before .before .before .before .before .before .before .before .before .before .before .before .loop-test .taken) (added-backward (c .before .before .before .before .before .before .before .before .before .before .before .before .before .before .entry-from-last .ensures) (c .before .before .before .before .before .before .before .before .before .before .replaces-backward .ensures)) (c .before .before .before .before .before .before .before .before .before .add .ensures .0) (ap outcome (c .before .n2 .given .1)))
 
 same-length-3 : tie.Need-same-length-3 Inv-loop μ-loop
-same-length-3 c = absurd (rows-refused (c .before .before .before .before .before .before .before .before .before .before .before .before .before .before .before .before .before .before .before .loop .inv .made) (c .before .before .before .before .before .before .before .before .before .before .before .before .before .before .before .before .before .before .loop-test .taken) (added-backward (c .before .before .before .before .before .before .before .before .before .before .before .before .before .before .entry-from-last .ensures) (c .before .before .before .before .before .before .before .before .before .before .replaces-backward .ensures)) (c .before .before .before .before .before .before .before .before .before .add .ensures .0) (ap outcome (c .before .n2 .given .1)))
+same-length-3 c = absurd (rows-refused (c .before .before .before .before .before .before .before .before .before .before .before .before .before .before .before .before .before .before .before .before .loop .inv .made) (c .before .before .before .before .before .before .before .before .before .before .before .before .before .before .before .before .before .before .before .loop-test .taken) (added-backward (c .before .before .before .before .before .before .before .before .before .before .before .before .before .before .entry-from-last .ensures) (c .before .before .before .before .before .before .before .before .before .before .replaces-backward .ensures)) (c .before .before .before .before .before .before .before .before .before .add .ensures .0) (ap outcome (c .before .n2 .given .1)))
 
 returns : tie.Need-returns Inv-loop μ-loop
-returns c = absurd (rows-refused (c .before .before .before .before .before .before .before .before .before .before .before .before .before .before .before .before .before .before .before .loop .inv .made) (c .before .before .before .before .before .before .before .before .before .before .before .before .before .before .before .before .before .before .loop-test .taken) (added-backward (c .before .before .before .before .before .before .before .before .before .before .before .before .before .before .entry-from-last .ensures) (c .before .before .before .before .before .before .before .before .before .before .replaces-backward .ensures)) (c .before .before .before .before .before .before .before .before .before .add .ensures .0) (ap outcome (c .before .n2 .given .1)))
+returns c = absurd (rows-refused (c .before .before .before .before .before .before .before .before .before .before .before .before .before .before .before .before .before .before .before .before .loop .inv .made) (c .before .before .before .before .before .before .before .before .before .before .before .before .before .before .before .before .before .before .before .loop-test .taken) (added-backward (c .before .before .before .before .before .before .before .before .before .before .before .before .before .before .entry-from-last .ensures) (c .before .before .before .before .before .before .before .before .before .before .replaces-backward .ensures)) (c .before .before .before .before .before .before .before .before .before .add .ensures .0) (ap outcome (c .before .n2 .given .1)))
 
 add-i : tie.Need-add-i Inv-loop μ-loop
-add-i c = omega (arith, c .before .before .before .before .before .before .before .before .before .before .before .before .before .before .before .before .before .before .before .before .before .before .before .before .before .good)
+add-i c = omega (arith, c .before .before .before .before .before .before .before .before .before .before .before .before .before .before .before .before .before .before .before .before .before .before .before .before .before .before .good)
 
 loop-less : tie.Need-loop-less Inv-loop μ-loop
 loop-less c = omega arith
 
 loop-again : tie.Need-loop-again Inv-loop μ-loop
-loop-again c = keeping-next (c .before .before .before .before .before .before .before .before .before .before .before .before .before .before .before .before .before .before .before .loop .inv) (c .before .before .before .before .before .before .before .before .before .before .before .before .before .before .before .before .before .before .loop-test .taken) (added-backward (c .before .before .before .before .before .before .before .before .before .before .before .before .before .before .entry-from-last .ensures) (c .before .before .before .before .before .before .before .before .before .before .replaces-backward .ensures)) (c .before .before .before .before .before .before .before .before .before .add .ensures) (ap outcome (c .before .n .given .1))
+loop-again c = keeping-next (c .before .before .before .before .before .before .before .before .before .before .before .before .before .before .before .before .before .before .before .before .loop .inv) (c .before .before .before .before .before .before .before .before .before .before .before .before .before .before .before .before .before .before .before .loop-test .taken) (added-backward (c .before .before .before .before .before .before .before .before .before .before .before .before .before .before .entry-from-last .ensures) (c .before .before .before .before .before .before .before .before .before .before .replaces-backward .ensures)) (c .before .before .before .before .before .before .before .before .before .add .ensures) (ap outcome (c .before .n .given .1))
 
 same-length-4 : tie.Need-same-length-4 Inv-loop μ-loop
 same-length-4 c = c .before .loop .inv .made .rest .same
