@@ -2,26 +2,17 @@
 //
 // A step waits for a slot before it knows the next one on its way, and the slots of a large table are mostly out of the processor's
 // caches. Those of different records do not wait for each other: for a batch of records each level is met at once, and the steps
-// then find near what they look for. What is met decides nothing but when to read ahead again, and any answer to that will do.
-ghost use mathlib.Core.Path.{_≡_};
-ghost use Prim.Native.Nat.{_+_, _*_, _/_, _≤_, _<_};
+// then find near what they look for. The compiler leaves out a read that decides nothing, so what is met is counted, and where
+// that is nothing the next record is tried again. No result of a rewind depends on it: any position that is answered will do.
+//
+// Every function here is proved safe and to end. The two calls are helpers of our own crates.
+mod batch;
+
+ghost use Prim.Native.Nat.{_+_, _/_, _^_, _≤_, _<_};
 ghost use lib.ListN.{length};
-use entry_index::links::hash_of;
-use entry_table::EntryKey;
-use entry_table::names::JOURNAL;
+use crate::batch::BATCH;
+use crate::batch::read_batch;
 use entry_table::slots::STRIDE;
-use entry_table::slots::info_at;
-use entry_table::slots::key_at;
-use entry_table::slots::same_key;
-use usn_record::bytes::byte_at;
-use usn_record::bytes::le_u16;
-use usn_record::bytes::le_u64;
-use usn_record::fields::parts_of;
-
-// The records of a batch, and the words of their keys.
-const BATCH: usize = 32;
-
-const KEY_WORDS: usize = 64;
 
 // How many folders are met above each record.
 const LEVELS: usize = 4;
@@ -29,258 +20,8 @@ const LEVELS: usize = 4;
 // A table of fewer slots is in the caches anyway.
 const LARGE: usize = 65536;
 
-// What a link leads to: how many slots, one or none, and the parent there.
-struct Met {
-    slots: usize,
-    parent: EntryKey,
-}
-
-// Where in a record a reference begins: that of its folder, or of its own file.
-fn reference_at(folder: bool, narrow: bool) -> usize
-    ensures { λ r. ⌜ r ≤ 24 ⌝ }
-{
-    if !folder {
-        return 8;
-    }
-    if narrow {
-        return 16;
-    }
-    24
-}
-
-// The key of the record at an offset, by its one reference or the other. The record is not tested: where none stands, this is the
-// key of some other file.
-fn key_of(journal: &[u8], offset: usize, folder: bool) -> EntryKey {
-    if journal.len() <= offset {
-        return EntryKey {
-            entry: 0,
-            sequence: 0,
-        };
-    }
-    let narrow = le_u16(journal, offset + 4) == 2;
-    let low = le_u64(journal, offset + reference_at(folder, narrow));
-    let reference = parts_of(low, 0, narrow);
-    EntryKey {
-        entry: reference.entry,
-        sequence: reference.sequence as u64,
-    }
-}
-
-// The first link of a key.
-fn link_of(heads: &[u64], key: EntryKey) -> u64
-    requires { ⌜ 0 < length (now heads) ⌝ }
-{
-    heads[hash_of(heads.len(), key)]
-}
-
-// A link, or the next one where its slot has another key.
-fn followed(slots: &[u64], nexts: &[u64], link: u64, key: EntryKey) -> u64 {
-    let count = slots.len() / STRIDE;
-    let i = link as usize;
-    if i == 0 {
-        return 0;
-    }
-    if count < i {
-        return 0;
-    }
-    if same_key(key_at(slots, i - 1), key) {
-        return link;
-    }
-    if nexts.len() < i {
-        return 0;
-    }
-    nexts[i - 1]
-}
-
-// What a link leads to that leads nowhere.
-fn nothing() -> Met
-    ensures { λ r. ⌜ r .slots ≡ 0 ⌝ }
-{
-    let parent = EntryKey {
-        entry: 0,
-        sequence: 0,
-    };
-    Met { slots: 0, parent }
-}
-
-// The slot that a link leads to.
-fn slot_of(slots: &[u64], link: u64) -> Met
-    ensures { λ r. ⌜ r .slots ≤ 1 ⌝ }
-{
-    let count = slots.len() / STRIDE;
-    let i = link as usize;
-    if i == 0 {
-        return nothing();
-    }
-    if count < i {
-        return nothing();
-    }
-    let info = info_at(slots, i - 1);
-    let parent = info.parent;
-    Met { slots: 1, parent }
-}
-
-// The first byte of the name in the slot that a link leads to.
-fn name_of(journal: &[u8], image: &[u8], slots: &[u64], link: u64) -> u8 {
-    let count = slots.len() / STRIDE;
-    let i = link as usize;
-    if i == 0 {
-        return 0;
-    }
-    if count < i {
-        return 0;
-    }
-    let info = info_at(slots, i - 1);
-    let name = info.name;
-    if name.source == JOURNAL {
-        return byte_at(journal, name.offset as usize);
-    }
-    byte_at(image, name.offset as usize)
-}
-
-// A key behind m others, unless it is the last one of them; how many there are then.
-fn add_key(keys: &mut [u64; KEY_WORDS], m: usize, last: EntryKey, key: EntryKey) -> usize
-    requires { ⌜ m < 32 ⌝ }
-    ensures { λ r. ⌜ r ≤ m + 1 ⌝ }
-{
-    if same_key(last, key) {
-        return m;
-    }
-    keys[m * 2] = key.entry;
-    keys[m * 2 + 1] = key.sequence;
-    m + 1
-}
-
-// The keys of n records from one on, those that are not that of the record before; how many they are.
-fn take_keys(
-    journal: &[u8],
-    records: &[usize],
-    from: usize,
-    n: usize,
-    folders: bool,
-    keys: &mut [u64; KEY_WORDS],
-) -> usize
-    requires { ⌜ (from + n ≤ length (now records) / 2) × (n ≤ 32) ⌝ }
-    ensures { λ r. ⌜ r ≤ 32 ⌝ }
-{
-    let mut last = EntryKey {
-        entry: 0,
-        sequence: 0,
-    };
-    let mut m: usize = 0;
-    let mut x: usize = 0;
-    while x < n {
-        let key = key_of(journal, records[(from + x) * 2], folders);
-        m = add_key(keys, m, last, key);
-        last = key;
-        x += 1;
-    }
-    m
-}
-
-// The first links of n keys.
-fn take_links(heads: &[u64], n: usize, keys: &[u64; KEY_WORDS], links: &mut [u64; BATCH])
-    requires { ⌜ (0 < length (now heads)) × (n ≤ 32) ⌝ }
-{
-    let mut x: usize = 0;
-    while x < n {
-        let key = EntryKey {
-            entry: keys[x * 2],
-            sequence: keys[x * 2 + 1],
-        };
-        links[x] = link_of(heads, key);
-        x += 1;
-    }
-}
-
-// The links of n keys: where the slot of the first one has another key, the next one.
-fn follow_links(
-    slots: &[u64],
-    nexts: &[u64],
-    n: usize,
-    keys: &[u64; KEY_WORDS],
-    links: &mut [u64; BATCH],
-)
-    requires { ⌜ n ≤ 32 ⌝ }
-{
-    let mut x: usize = 0;
-    while x < n {
-        let key = EntryKey {
-            entry: keys[x * 2],
-            sequence: keys[x * 2 + 1],
-        };
-        let link = links[x];
-        links[x] = followed(slots, nexts, link, key);
-        x += 1;
-    }
-}
-
-// The parents in the slots that n links lead to, as the next keys; how many slots there are.
-fn take_parents(slots: &[u64], n: usize, links: &[u64; BATCH], keys: &mut [u64; KEY_WORDS]) -> usize
-    requires { ⌜ n ≤ 32 ⌝ }
-    ensures { λ r. ⌜ r ≤ 32 ⌝ }
-{
-    let mut met: usize = 0;
-    let mut x: usize = 0;
-    while x < n {
-        let found = slot_of(slots, links[x]);
-        let parent = found.parent;
-        keys[x * 2] = parent.entry;
-        keys[x * 2 + 1] = parent.sequence;
-        met += found.slots;
-        x += 1;
-    }
-    met
-}
-
-// The names in the slots that n links lead to: the sum of their first bytes.
-fn take_names(journal: &[u8], image: &[u8], slots: &[u64], n: usize, links: &[u64; BATCH]) -> usize
-    requires { ⌜ n ≤ 32 ⌝ }
-    ensures { λ r. ⌜ r ≤ 8160 ⌝ }
-{
-    let mut sum: usize = 0;
-    let mut x: usize = 0;
-    while x < n {
-        sum += name_of(journal, image, slots, links[x]) as usize;
-        x += 1;
-    }
-    sum
-}
-
-// Reads ahead for n records from one on, so many folders up; how much was met.
-fn read_batch(
-    journal: &[u8],
-    image: &[u8],
-    records: &[usize],
-    from: usize,
-    n: usize,
-    slots: &[u64],
-    heads: &[u64],
-    nexts: &[u64],
-    levels: usize,
-) -> usize
-    requires { ⌜ (from + n ≤ length (now records) / 2) × (n ≤ 32) ⌝ }
-    requires { ⌜ (0 < length (now heads)) × (levels ≤ 4) ⌝ }
-{
-    let mut keys = [0u64; KEY_WORDS];
-    let mut links = [0u64; BATCH];
-    let files = take_keys(journal, records, from, n, false, &mut keys);
-    take_links(heads, files, &keys, &mut links);
-    let mut met = take_parents(slots, files, &links, &mut keys);
-    let folders = take_keys(journal, records, from, n, true, &mut keys);
-    let mut level: usize = 0;
-    while level < levels {
-        take_links(heads, folders, &keys, &mut links);
-        follow_links(slots, nexts, folders, &keys, &mut links);
-        met += take_parents(slots, folders, &links, &mut keys);
-        met += take_names(journal, image, slots, folders, &links);
-        level += 1;
-    }
-    met
-}
-
-// Before the record at a position is put into a table by a walk from the first record to the last: where it has not been read ahead
-// for, it is for the records from there on. The position up to which it has been.
+// Before a walk from the first record to the last puts the record at a position into a table: reads ahead from there on, unless that
+// is done up to a later position. The position up to which it is done.
 pub fn ahead_of(
     journal: &[u8],
     image: &[u8],
@@ -291,19 +32,10 @@ pub fn ahead_of(
     heads: &[u64],
     nexts: &[u64],
 ) -> usize {
-    if position < done {
+    let n = due(records, position, done, slots, heads);
+    if n == 0 {
         return done;
     }
-    if heads.len() == 0 {
-        return records.len();
-    }
-    if slots.len() / STRIDE < LARGE {
-        return records.len();
-    }
-    if records.len() / 2 <= position {
-        return records.len();
-    }
-    let n = batch_of(records.len() / 2 - position);
     let met = read_batch(
         journal,
         image,
@@ -315,10 +47,7 @@ pub fn ahead_of(
         nexts,
         LEVELS,
     );
-    if met == 0 {
-        return position + 1;
-    }
-    position + n
+    reached(position, n, met)
 }
 
 // The same for a walk from the last record to the first, with positions from the last one on. It needs the slots of the records' own
@@ -332,43 +61,44 @@ pub fn behind(
     heads: &[u64],
     nexts: &[u64],
 ) -> usize {
-    if position < done {
+    let n = due(records, position, done, slots, heads);
+    if n == 0 {
         return done;
     }
+    let from = records.len() / 2 - position - n;
+    let met = read_batch(journal, journal, records, from, n, slots, heads, nexts, 0);
+    reached(position, n, met)
+}
+
+// How many records from a position on to read ahead for: none where that is done, without an index, or in a small table.
+fn due(records: &[usize], position: usize, done: usize, slots: &[u64], heads: &[u64]) -> usize
+    ensures { λ r. ⌜ (r ≤ 32) × (0 < r → (position + r ≤ length (now (records .entry)) / 2) × (0 < length (now (heads .entry)))) ⌝ }
+{
+    let count = records.len() / 2;
+    if position < done {
+        return 0;
+    }
     if heads.len() == 0 {
-        return records.len();
+        return 0;
     }
     if slots.len() / STRIDE < LARGE {
-        return records.len();
+        return 0;
     }
-    if records.len() / 2 <= position {
-        return records.len();
+    if count <= position {
+        return 0;
     }
-    let left = records.len() / 2 - position;
-    let n = batch_of(left);
-    let met = read_batch(
-        journal,
-        journal,
-        records,
-        left - n,
-        n,
-        slots,
-        heads,
-        nexts,
-        0,
-    );
+    if count - position < BATCH {
+        return count - position;
+    }
+    BATCH
+}
+
+// The position up to which n records from one on are done; where nothing was met, the next record is tried again.
+fn reached(position: usize, n: usize, met: usize) -> usize
+    requires { ⌜ (0 < n) × (position + n < 2 ^ 64) ⌝ }
+{
     if met == 0 {
         return position + 1;
     }
     position + n
-}
-
-// How many of so many records are of the next batch.
-fn batch_of(left: usize) -> usize
-    ensures { λ r. ⌜ (r ≤ left) × (r ≤ 32) ⌝ }
-{
-    if left < BATCH {
-        return left;
-    }
-    BATCH
 }

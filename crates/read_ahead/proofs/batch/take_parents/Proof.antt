@@ -2,8 +2,8 @@
 use borrow.Author.Needs.{needs}
 use Prim.Native.Nat.{_≤_, _-_}
 use native.Mathlib.Omega.{arith}
-use Rattle.read_ahead.proofs.take_parents.Statement.{statement}
-use Rattle.read_ahead.proofs.take_parents.Tie as tie
+use Rattle.read_ahead.proofs.batch.take_parents.Statement.{statement}
+use Rattle.read_ahead.proofs.batch.take_parents.Tie as tie
 
 abbrev Inv-loop : tie.InvT-loop
 Inv-loop slots n links keys₀ met₀ x₀ keys met x = (x ≤ n) × (met ≤ x)

@@ -2,8 +2,8 @@
 use borrow.Author.Needs.{needs}
 use Prim.Native.Nat.{_≤_, _-_, _*_}
 use native.Mathlib.Omega.{arith}
-use Rattle.read_ahead.proofs.take_names.Statement.{statement}
-use Rattle.read_ahead.proofs.take_names.Tie as tie
+use Rattle.read_ahead.proofs.batch.take_names.Statement.{statement}
+use Rattle.read_ahead.proofs.batch.take_names.Tie as tie
 
 abbrev Inv-loop : tie.InvT-loop
 Inv-loop journal image slots n links sum₀ x₀ sum x = (x ≤ n) × (sum ≤ 255 * x)

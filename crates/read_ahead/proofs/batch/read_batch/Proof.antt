@@ -2,8 +2,8 @@
 use Prim.Native.Nat.{_+_, _-_, _*_, _≤_}
 use native.Mathlib.Omega.{arith}
 use borrow.Author.Needs.{needs}
-use Rattle.read_ahead.proofs.read_batch.Statement.{statement}
-use Rattle.read_ahead.proofs.read_batch.Tie as tie
+use Rattle.read_ahead.proofs.batch.read_batch.Statement.{statement}
+use Rattle.read_ahead.proofs.batch.read_batch.Tie as tie
 
 abbrev Inv-loop : tie.InvT-loop
 Inv-loop journal image records from n slots heads nexts levels keys₀ links₀ files met₀ folders level₀ keys links met level =

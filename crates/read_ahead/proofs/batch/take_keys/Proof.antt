@@ -2,8 +2,8 @@
 use Prim.Native.Nat.{_≤_, _-_}
 use native.Mathlib.Omega.{arith}
 use borrow.Author.Needs.{needs}
-use Rattle.read_ahead.proofs.take_keys.Statement.{statement}
-use Rattle.read_ahead.proofs.take_keys.Tie as tie
+use Rattle.read_ahead.proofs.batch.take_keys.Statement.{statement}
+use Rattle.read_ahead.proofs.batch.take_keys.Tie as tie
 
 abbrev Inv-loop : tie.InvT-loop
 Inv-loop journal records from n folders keys₀ last₀ m₀ x₀ keys last m x = (x ≤ n) × (m ≤ x)

@@ -2,8 +2,8 @@
 use borrow.Author.Needs.{needs}
 use Prim.Native.Nat.{_≤_, _-_}
 use native.Mathlib.Omega.{arith}
-use Rattle.read_ahead.proofs.take_links.Statement.{statement}
-use Rattle.read_ahead.proofs.take_links.Tie as tie
+use Rattle.read_ahead.proofs.batch.take_links.Statement.{statement}
+use Rattle.read_ahead.proofs.batch.take_links.Tie as tie
 
 abbrev Inv-loop : tie.InvT-loop
 Inv-loop heads n keys links₀ x₀ links x = x ≤ n

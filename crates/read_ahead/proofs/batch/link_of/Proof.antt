@@ -3,8 +3,8 @@ use native.Mathlib.Omega.{arith}
 use lib.ListN.{length}
 use Rattle.entry_index.proofs.IndexLaws.{hash-below}
 use borrow.Author.Needs.{needs}
-use Rattle.read_ahead.proofs.link_of.Statement.{statement}
-use Rattle.read_ahead.proofs.link_of.Tie as tie
+use Rattle.read_ahead.proofs.batch.link_of.Statement.{statement}
+use Rattle.read_ahead.proofs.batch.link_of.Tie as tie
 
 hash-of-requires : tie.Need-hash-of-requires
 hash-of-requires c κs = search needs

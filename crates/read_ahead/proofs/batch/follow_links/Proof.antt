@@ -2,8 +2,8 @@
 use Prim.Native.Nat.{_≤_, _-_}
 use native.Mathlib.Omega.{arith}
 use borrow.Author.Needs.{needs}
-use Rattle.read_ahead.proofs.follow_links.Statement.{statement}
-use Rattle.read_ahead.proofs.follow_links.Tie as tie
+use Rattle.read_ahead.proofs.batch.follow_links.Statement.{statement}
+use Rattle.read_ahead.proofs.batch.follow_links.Tie as tie
 
 abbrev Inv-loop : tie.InvT-loop
 Inv-loop slots nexts n keys links₀ x₀ links x = x ≤ n
