@@ -31,6 +31,10 @@ const STREAM: u64 = 10;
 /// A rewind is so much larger than a record that it counts for this many cases of a run.
 const CASES_A_REWIND: u64 = 50;
 
+/// From so many slots on a rewind by way of an index reads ahead; one in so many rewinds has such tables.
+const LARGE: usize = 65536;
+const LARGE_TABLE: usize = 1024;
+
 pub fn run(run: &Run) -> Outcome {
     // The pages of these zeros are not in memory.
     let above = vec![0; DOMAIN + 1];
@@ -78,7 +82,9 @@ fn random_case(random: &mut Random, world: &World, above: &[u8], made: &mut Made
     let needed = before
         .needed(&listed)
         .map_err(|refusal| whole::unexpected("a start", "one that is not refused", &refusal.to_string()))?;
-    let words = [(); 2].map(|()| SLOT_WORDS * (needed + random.pick(&[0, 0, 0, 1, 5])) + random.pick(&[0, 0, 1, 6]));
+    let more = if random.one_in(LARGE_TABLE) { LARGE } else { 0 };
+    let slots = needed + more;
+    let words = [(); 2].map(|()| SLOT_WORDS * (slots + random.pick(&[0, 0, 0, 1, 5])) + random.pick(&[0, 0, 1, 6]));
     let mut beside = Beside {
         random,
         above,
