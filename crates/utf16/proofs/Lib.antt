@@ -3,6 +3,7 @@ pub mod Utf8Laws
 pub mod TextLaws
 pub mod FirstLaws
 pub mod PutLaws
+pub mod AsciiLaws
 pub mod NameLaws
 pub mod DecimalLaws
 pub mod CallLaws

@@ -4,3 +4,4 @@ pub mod Text
 pub mod First
 pub mod Decoding
 pub mod Decimal
+pub mod Ascii

@@ -1,7 +1,8 @@
 // Text: UTF-16 in little-endian bytes is written as UTF-8, and numbers in decimal.
 //
-// Every function here is proved. The call has no `requires`: any bytes and any text get an answer. The modules' writers ask for
-// room and answer the index after what they wrote: they are helpers of our own crates and not offered as calls.
+// Every function here is proved. The call has no `requires`: any bytes and any text get an answer. The modules' public writers ask
+// for room and answer the index after what they wrote: they are helpers of our own crates and not offered as calls.
+mod ascii;
 mod code_point;
 pub mod decimal;
 pub mod name;
