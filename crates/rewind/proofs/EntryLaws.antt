@@ -12,7 +12,7 @@ use Rattle.walk.specs.Places.{emptyPlace, placeFrom}
 use Rattle.walk.specs.declared.Place.{Place}
 use Rattle.walk.proofs.ChoiceLaws.{cond-cases}
 use Rattle.usn_record.specs.Bytes.{leAt}
-use Rattle.usn_record.specs.Record.{listed, outcome}
+use Rattle.usn_record.specs.Record.{listed, outcome, isAnswered}
 use Rattle.usn_record.specs.declared.UsnRecord.{UsnRecord}
 use Rattle.usn_record.specs.declared.Parsed.{Parsed}
 use Rattle.usn_record.specs.declared.Parsed.the-variants.{Record, Refused}
@@ -21,7 +21,6 @@ use Rattle.entry_table.specs.Names.{lengths, inside}
 use Rattle.entry_table.specs.Table.{addition}
 use Rattle.entry_table.specs.declared.NamePlace.{NamePlace}
 use Rattle.rewind.specs.Entries.{hasReason, fromJournal, entryFrom, entryAt, entryOr, backward, forward}
-use Rattle.rewind.specs.Environment.{isAnswered}
 use Rattle.rewind.specs.declared.entries.RecordEntry.{RecordEntry}
 
 -- a reason is asked for by a division
@@ -37,13 +36,18 @@ pub name-moved : (o : ℕ) (p : Place) → eqb (p .length) 0 ≡ false
     → _≡_ {A = NamePlace} (record { source = 0; offset = o + p .offset; length = p .length }) (fromJournal (placeFrom o p))
 name-moved o p e = rw e
 
+-- an entry is known where a record is listed
+told : {A B : Type 0} (f : A → B) (x : Outcome A) → isAnswered x ≡ isAnswered (mapOutcome f x)
+told f (refused n) = refl
+told f (answered a) = refl
+
+pub record-told : (s : List ℕ) (o : ℕ) {r : Bool} → r ≡ isAnswered (listed s o) → r ≡ isAnswered (entryAt s o)
+record-told s o e = e ∙ told (entryFrom o) (listed s o)
+
 module _ (s : List ℕ) (o : ℕ) {p : Parsed} (e : outcome p ≡ listed s o) where
   module _ {m : ℕ} (g : p ≡ Refused m) where
     none : listed s o ≡ refused m
     none = sym e ∙ ap outcome g
-
-    pub not-record : false ≡ isAnswered (entryAt s o)
-    not-record = rw none
 
     pub no-entry : entryOr (refused 0) ≡ entryOr (entryAt s o)
     no-entry = rw none
@@ -51,9 +55,6 @@ module _ (s : List ℕ) (o : ℕ) {p : Parsed} (e : outcome p ≡ listed s o) wh
   module _ {r : UsnRecord} (g : p ≡ Record r) where
     is : listed s o ≡ answered r
     is = sym e ∙ ap outcome g
-
-    pub is-record : true ≡ isAnswered (entryAt s o)
-    is-record = rw is
 
     -- the name's place does not pass the journal
     pub name-ends : o + r .filename .offset + r .filename .length ≤ length s

@@ -9,12 +9,13 @@ use lib.ListN.{length, drop}
 use Rattle.walk.specs.Outcome.{Outcome, refused, answered}
 use Rattle.walk.specs.Lists.{every}
 use Rattle.walk.proofs.ChoiceLaws.{and-left, and-right}
+use Rattle.usn_record.specs.Record.{isAnswered}
 use Rattle.entry_table.specs.Slots.{rows}
 use Rattle.entry_table.specs.Table.{Addition}
 use Rattle.entry_table.proofs.RowLaws.{rows-next, rows-end, map-rows}
 use Rattle.entry_table.proofs.NameLaws.{every-at}
 use Rattle.rewind.specs.Entries.{entryAt, entryOr, backward}
-use Rattle.rewind.specs.Environment.{environmentWith, recordsIn, offsetIn, offsetsIn, isAnswered, allAnswered, entriesOf}
+use Rattle.rewind.specs.Environment.{environmentWith, recordsIn, offsetIn, offsetsIn, allAnswered, entriesOf}
 use Rattle.rewind.specs.Starting.{additions}
 use Rattle.rewind.specs.Walking.{entryIn, lastEntry, lastAdded, walkedBack}
 use Rattle.rewind.specs.Stepping.{Next, ended, next, firstOf}

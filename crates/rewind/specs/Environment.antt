@@ -1,12 +1,13 @@
 -- What rewinds know of a journal and an image: their lengths, and what the listed records say. They never see the bytes.
 use Prim.Native.Nat.{ℕ, _*_, _/_}
 use mathlib.Core.List.{List, [], _∷_, map}
-use mathlib.Core.Bool.{Bool, true, false, cond, not, _||_}
+use mathlib.Core.Bool.{Bool, cond, not, _||_}
 use lib.ListN.{length, getD}
 use lib.Dec.{ltb, eqb}
 use Rattle.walk.specs.Outcome.{Outcome, refused, answered}
 use Rattle.walk.specs.Lists.{every}
 use Rattle.walk.specs.Refusals.{aboveDomain, badState, notARecord, nameOutside, domain}
+use Rattle.usn_record.specs.Record.{isAnswered}
 use Rattle.entry_table.specs.Names.{Lengths, lengths, allInside}
 use Rattle.entry_table.specs.Slots.{slotsIn, namesIn, rows}
 use Rattle.entry_table.specs.Table.{Table}
@@ -40,10 +41,6 @@ abbrev pub environmentOf : List ℕ → List ℕ → List ℕ → Environment
 environmentOf journal image l = environmentWith journal (length image) l
 
 -- every listed record is one
-abbrev pub isAnswered : {A : Type 0} → Outcome A → Bool
-isAnswered (refused n) = false
-isAnswered (answered a) = true
-
 abbrev pub allAnswered : {A : Type 0} → List (Outcome A) → Bool
 allAnswered = every isAnswered
 

@@ -3,14 +3,16 @@ ghost use mathlib.Core.Path.{_≡_};
 ghost use Prim.Native.Nat.{_+_, _^_, _<_};
 ghost use mathlib.Core.List.{map};
 ghost use Rattle.walk.specs.Places.{placeFrom};
+ghost use Rattle.usn_record.specs.Record.{isAnswered};
 ghost use Rattle.rewind.specs.Entries.{hasReason, fromJournal, entryAt, entryOr, backward, forward};
-ghost use Rattle.rewind.specs.Environment.{recordsIn, offsetsIn, isAnswered, allAnswered};
+ghost use Rattle.rewind.specs.Environment.{recordsIn, offsetsIn, allAnswered};
 ghost use Rattle.rewind.specs.Walking.{lastEntry};
 use entry_table::EntryInfo;
 use entry_table::EntryKey;
 use entry_table::NamePlace;
 use entry_table::names::JOURNAL;
 use usn_record::Parsed;
+use usn_record::listed::is_listed;
 use usn_record::listed_record;
 use walk::Place;
 
@@ -119,10 +121,7 @@ pub fn entry_at(journal: &[u8], offset: usize) -> RecordEntry
 fn is_record(journal: &[u8], offset: usize) -> bool
     ensures { λ r. ⌜ r ≡ isAnswered (entryAt (now (journal .entry)) offset) ⌝ }
 {
-    match listed_record(journal, offset) {
-        Parsed::Refused(_) => false,
-        Parsed::Record(_) => true,
-    }
+    is_listed(journal, offset)
 }
 
 // Whether one stands at every listed offset.

@@ -4,4 +4,5 @@ pub mod FieldLaws
 pub mod RecordLaws
 pub mod NameLaws
 pub mod ListedLaws
+pub mod TestLaws
 pub mod ZeroLaws

@@ -194,15 +194,19 @@ module _ (l : Layout) (k : Inside l) where
   part-agrees o n a = parsed-agrees (agree-part o n (l .fixed) a (omega arith) (omega arith))
 
   -- a record that is handed over exactly, as the part as long as its length field, is accepted
-  module _ (s : List ℕ) (o : ℕ) {n : ℕ} (e : n ≡ leAt 4 s o) (a : length s ≤ domain) (b : o + n ≤ length s) (f : l .fixed ≤ n) where
+  module _ (s : List ℕ) (o : ℕ) {n : ℕ} (e : n ≡ leAt 4 s o) (b : o + n ≤ length s) (f : l .fixed ≤ n) where
     pub part-length-field : leAt 4 (part s o n) 0 ≡ n
     part-length-field = read-part s o n 4 0 b (omega (arith, k .header)) ∙ ap (leAt 4 s) (add-zero o) ∙ sym e
 
-    pub part-accepted : n ≤ maxRecord → parsed l (part s o n) ≡ answered (recordOf l (part s o n))
-    part-accepted h =
+    pub part-accepts : n ≤ maxRecord → Accepts l (part s o n)
+    part-accepts h =
         let len : length (part s o n) ≡ n = part-length s o n b in
         let fld : leAt 4 (part s o n) 0 ≡ n = part-length-field in
-        sym (accepted l (part s o n) (record { small = omega arith; whole = omega arith; least = omega arith; most = omega arith; held = λ _. omega arith }))
+        record { small = omega arith; whole = omega arith; least = omega arith; most = omega arith; held = λ _. omega arith }
+
+  pub part-accepted : (s : List ℕ) (o : ℕ) {n : ℕ} → n ≡ leAt 4 s o → length s ≤ domain → o + n ≤ length s → l .fixed ≤ n → n ≤ maxRecord
+      → parsed l (part s o n) ≡ answered (recordOf l (part s o n))
+  part-accepted s o e a b f h = sym (accepted l _ (part-accepts s o e b f h))
 
 -- where a record's name lies in its slice
 pub name-lies : (l : Layout) (s : List ℕ) → NameAt (nameEnd l s) (leAt 2 s (l .nameOffset)) (recordOf l s .filename)

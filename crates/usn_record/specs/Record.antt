@@ -1,9 +1,9 @@
 -- What parsing one USN record gives, for any layout, and the record that stands at an offset of an extract.
 use Prim.Native.Nat.{ℕ, _+_}
 use mathlib.Core.List.{List, [], _∷_}
-use mathlib.Core.Bool.{cond, _&&_, _||_}
+use mathlib.Core.Bool.{Bool, true, false, cond, _&&_, _||_}
 use lib.ListN.{length}
-use lib.Dec.{ltb, eqb}
+use lib.Dec.{ltb, leb, eqb}
 use mir.Syntax.{w64}
 use mir.Val.{toZ, ofZ}
 use Rattle.walk.specs.Outcome.{Outcome, refused, answered, refusedAs}
@@ -72,6 +72,15 @@ listed s o =
     (cond (eqb version 2) (asListed (parsed v2 (part s o n)))
     (cond (eqb version 3) (asListed (parsed v3 (part s o n)))
     (refused notARecord))))
+
+-- an outcome is an answer
+abbrev pub isAnswered : {A : Type 0} → Outcome A → Bool
+isAnswered (refused n) = false
+isAnswered (answered a) = true
+
+-- a record with a fixed part of so many bytes may have length n
+unfoldable pub fitsRecord : ℕ → ℕ → Bool
+fitsRecord fixed n = leb fixed n && leb n maxRecord
 
 -- what a parser's answer says
 abbrev pub outcome : Parsed → Outcome UsnRecord

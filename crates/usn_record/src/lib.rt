@@ -3,6 +3,7 @@
 // Every function here is proved. No call has a `requires`: any slice gets an answer, a record or a refusal by its number.
 pub mod bytes;
 pub mod fields;
+pub mod listed;
 mod parse;
 pub mod zeros;
 

@@ -19,7 +19,7 @@ use walk::LENGTH_PAST_SLICE;
 use walk::SHORT_SLICE;
 
 // The largest record.
-const USN_MAX_RECORD_SIZE: usize = 65536;
+pub(crate) const USN_MAX_RECORD_SIZE: usize = 65536;
 
 // A record whose parent reference is at parent and whose fields from the USN on begin at tail. The layout's numbers are
 // parameters of their own and no struct, so that the compiler makes one function with constant offsets for each version.

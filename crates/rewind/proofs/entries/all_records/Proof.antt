@@ -3,8 +3,8 @@ use Prim.Native.Nat.{_-_}
 use mathlib.Core.Path.{refl}
 use native.Mathlib.Omega.{arith}
 use borrow.Author.Tests.{not-true, not-false}
+use Rattle.usn_record.specs.Record.{isAnswered}
 use Rattle.entry_table.proofs.NameLaws.{Passing, passing-start, passing-row, passing-outside, passing-end}
-use Rattle.rewind.specs.Environment.{isAnswered}
 use Rattle.rewind.proofs.RecordLaws.{atNumber, records-test}
 use Rattle.rewind.proofs.entries.all_records.Statement.{statement}
 use Rattle.rewind.proofs.entries.all_records.Tie as tie

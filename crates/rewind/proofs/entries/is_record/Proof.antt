@@ -1,24 +1,14 @@
--- By the parser's answer.
-use Rattle.rewind.proofs.EntryLaws.{not-record, is-record}
+-- An entry is known where a record is listed.
+use Rattle.rewind.proofs.EntryLaws.{record-told}
 use borrow.Author.Needs.{needs}
 use Rattle.rewind.proofs.entries.is_record.Statement.{statement}
 use Rattle.rewind.proofs.entries.is_record.Tie as tie
 
-listed-record-requires : tie.Need-listed-record-requires
-listed-record-requires c κs = search needs
-
-enum-told : tie.Need-enum-told
-enum-told c = search needs
-
-enum-told-2 : tie.Need-enum-told-2
-enum-told-2 c = search needs
+is-listed-requires : tie.Need-is-listed-requires
+is-listed-requires c κs = search needs
 
 returns : tie.Need-returns
-returns c = not-record _ _ (c .before .before .listed-record .ensures) (c .enum-told .given .1)
-
-returns-2 : tie.Need-returns-2
-returns-2 c = is-record _ _ (c .before .before .listed-record .ensures) (c .enum-told2 .given .1)
+returns c = record-told _ _ (c .is-listed .ensures)
 
 pub is-record-spec : {M : Type 1} → statement M
-is-record-spec =
-    tie.close (tie.spec listed-record-requires enum-told enum-told-2 returns returns-2)
+is-record-spec = tie.close (tie.spec is-listed-requires returns)
