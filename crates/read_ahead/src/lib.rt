@@ -17,7 +17,7 @@ use entry_table::slots::STRIDE;
 // How many folders are met above each record.
 const LEVELS: usize = 4;
 
-// A table of fewer slots is in the caches anyway.
+// Tables of fewer slots are not read ahead for.
 const LARGE: usize = 65536;
 
 // Before a walk from the first record to the last puts the record at a position into a table: reads ahead from there on, unless that
