@@ -12,7 +12,7 @@ use Rattle.utf16.specs.Text.{nameText}
 use Rattle.utf16.proofs.TextLaws.{name-most}
 use Rattle.entry_table.specs.Names.{lengthsOf, inside}
 use Rattle.entry_table.specs.declared.NamePlace.{NamePlace}
-use Rattle.path.specs.Text.{placeText, stepText}
+use Rattle.path.specs.Text.{placeText, stepText, stepMost}
 
 module _ (journal image : List ℕ) (p : NamePlace) where
   -- the name lies in the journal
@@ -52,10 +52,6 @@ pub record Sources (journal image : List ℕ) : Type 0 where
   pub imageLong : length image ≤ domain
   pub journalBytes : Bytes journal
   pub imageBytes : Bytes image
-
--- three bytes a unit, and a backslash
-abbrev pub stepMost : ℕ
-stepMost = 1610612737
 
 pub step-most : (journal image : List ℕ) (p : NamePlace) → Sources journal image → inside (lengthsOf journal image) p ≡ true → length (stepText journal image p) ≤ stepMost
 step-most journal image p w e = go (eqb (p .source) 0) refl

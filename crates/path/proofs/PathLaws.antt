@@ -16,8 +16,8 @@ use Rattle.chain.specs.declared.steps.Way.the-variants.{End, Slot}
 use Rattle.chain.specs.Chain.{Chain, chain, stepOf}
 use Rattle.chain.proofs.ChainLaws.{chain-end, chain-up, chain-cases}
 use Rattle.chain.proofs.PlaceLaws.{flatten-more}
-use Rattle.path.specs.Text.{endText, placeText, stepText, namesText, pathText}
-use Rattle.path.proofs.NameLaws.{Sources, step-long, stepMost, step-most}
+use Rattle.path.specs.Text.{endText, placeText, stepText, namesText, pathText, stepMost}
+use Rattle.path.proofs.NameLaws.{Sources, step-long, step-most}
 
 -- the name of a used slot is inside
 pub slot-inside : (journal image : List ℕ) (t : Table) {i : ℕ} → allInside (lengthsOf journal image) (namesIn (t .words) (t .used)) ≡ true → i < t .used

@@ -40,6 +40,10 @@ placeLength journal image p = length (placeText journal image p)
 unfoldable pub stepText : List ℕ → List ℕ → NamePlace → List ℕ
 stepText journal image p = (0x5C ∷ []) ++ placeText journal image p
 
+-- the most bytes that it takes within the domain: the backslash, and three for each of 536870912 units
+abbrev pub stepMost : ℕ
+stepMost = 1610612737
+
 abbrev pub namesText : List ℕ → List ℕ → List NamePlace → List ℕ
 namesText journal image ps = flatten (stepText journal image) ps
 

@@ -15,8 +15,8 @@ use Rattle.chain.specs.declared.steps.Way.the-variants.{End, Slot}
 use Rattle.chain.specs.Settings.{deepest}
 use Rattle.chain.specs.Chain.{chain, stepOf}
 use Rattle.chain.proofs.ChainLaws.{chain-end, chain-up}
-use Rattle.path.specs.Text.{placeText, namesText}
-use Rattle.path.proofs.NameLaws.{Sources, step-long, stepMost, step-most}
+use Rattle.path.specs.Text.{placeText, namesText, stepMost}
+use Rattle.path.proofs.NameLaws.{Sources, step-long, step-most}
 use Rattle.path.proofs.PathLaws.{names-long, name-inside, names-most}
 use Rattle.path_index.specs.Behind.{measured}
 use Rattle.path_index.specs.declared.ways.Measured.{Measured}
