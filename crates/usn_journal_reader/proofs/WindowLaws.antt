@@ -1,77 +1,26 @@
--- A window as words, what a reading x goes out as, and the window's calls by their tests. Assumes nothing.
+-- The window's calls by their tests. Assumes nothing.
 use Prim.Native.Nat.{ℕ, _≤_, _<_}
 use mathlib.Core.Path.{_≡_, refl, sym, ap, _∙_}
-use mathlib.Core.List.{List, [], _∷_}
-use mathlib.Core.Bool.{Bool, true, false, cond, not}
+use mathlib.Core.List.{List}
+use mathlib.Core.Bool.{Bool, true, false, cond}
 use native.Mathlib.Omega.{arith}
 use lib.ListN.{length}
 use lib.Seq.{sets}
 use lib.Dec.{eqb}
-use mir.Val.{boolByte}
 use Rattle.walk.specs.Outcome.{Outcome, refused, answered}
-use Rattle.walk.specs.Lists.{listAfter, overwrite}
+use Rattle.walk.specs.Lists.{listAfter}
 use Rattle.walk.specs.Refusals.{listFull}
-use Rattle.walk.proofs.ListLaws.{sets-append}
-use Rattle.usn_record.specs.Record.{recordWords}
-use Rattle.usn_record.specs.declared.UsnRecord.{UsnRecord}
 use Rattle.usn_reader.specs.Window.{fresh, wantedOf, finished, fedBy}
 use Rattle.usn_reader.specs.Rule.{bufferReads, reading, asking}
 use Rattle.usn_reader.specs.Calls.{nextOf, giveOf, giveRefusal, bufferAfter}
 use Rattle.usn_reader.specs.declared.UsnJournalReader.{UsnJournalReader}
-use Rattle.usn_reader.specs.declared.Answer.{Answer}
-use Rattle.usn_reader.specs.declared.Answer.the-variants.{Record, Wants, End, Refused}
+use Rattle.usn_reader.specs.declared.Answer.the-variants.{End, Refused}
 use Rattle.usn_reader.specs.declared.Reading.{Reading}
-use Rattle.usn_journal_reader.specs.Answers.{number, unlessRefused}
-use Rattle.usn_journal_reader.specs.Window.{readerWords, readerOf, answerWords, windowWords, readingWords, outcomeBy, readingOutcome, onWindow, newCall, nextCall, giveCall, giveBuffer}
-use Rattle.usn_journal_reader.proofs.AnswerLaws.{One, Both, out-one, out-both, out-refused, out-answered, room-few, room-enough}
-use Rattle.usn_journal_reader.proofs.RecordLaws.{record-words}
-
--- the row that code makes of a window
-pub reader-made : (w : UsnJournalReader) → (w .start ∷ w .position ∷ w .end ∷ w .held ∷ w .total ∷ boolByte (w .ended) ∷ []) ≡ readerWords w
-unfolding readerWords
-reader-made w = ap (λ (n : ℕ). w .start ∷ w .position ∷ w .end ∷ w .held ∷ w .total ∷ n ∷ []) (flag (w .ended))
-  where
-    flag : (b : Bool) → boolByte b ≡ cond b 1 0
-    flag true = refl
-    flag false = refl
-
-reader-words : (w : UsnJournalReader) → length (readerWords w) ≡ 6
-unfolding readerWords
-reader-words w = refl
-
--- A reading x goes out: with the number r, the window's words l are l′, and the answer's words o are o′
-abbrev pub Told : Outcome Reading → List ℕ → List ℕ → List ℕ → List ℕ → ℕ → Type 0
-Told = Both windowWords readingWords
-
-pub told-refused : (l o : List ℕ) {x : Outcome Reading} {n : ℕ} → x ≡ refused n → Told x l l o o n
-told-refused l o e = out-both (out-refused windowWords l e) (out-refused readingWords o e)
-
-module _ (x : Reading) (l o : List ℕ) where
-  by : {a : Answer} → x .answer ≡ a → readingOutcome x ≡ outcomeBy a x
-  by e = ap (λ (a : Answer). outcomeBy a x) e
-
-  pub reading-refused : {n : ℕ} → x .answer ≡ Refused n → Told (readingOutcome x) l l o o n
-  reading-refused e = told-refused l o (by e)
-
-  module _ (h : 6 ≤ length l) (k : 22 ≤ length o) {l′ : List ℕ} (f : l′ ≡ sets l 0 (readerWords (x .reader))) where
-    told : {row o′ : List ℕ} → readingOutcome x ≡ answered x → answerWords (x .answer) ≡ row → length row ≤ 22 → o′ ≡ sets o 0 row → Told (readingOutcome x) l l′ o o′ 0
-    told q e n g =
-        out-both (out-answered windowWords l q (omega (arith, reader-words (x .reader))) refl f)
-        (out-answered readingWords o q (rw e (omega arith)) (sym e) g)
-
-    pub reading-end : x .answer ≡ End → {o′ : List ℕ} → o′ ≡ sets o 0 (0 ∷ 0 ∷ 0 ∷ []) → Told (readingOutcome x) l l′ o o′ 0
-    unfolding answerWords
-    reading-end e g = told (by e) (ap answerWords e) (omega arith) g
-
-    pub reading-wants : {a n : ℕ} → x .answer ≡ Wants a n → {o′ : List ℕ} → o′ ≡ sets o 0 (1 ∷ a ∷ n ∷ []) → Told (readingOutcome x) l l′ o o′ 0
-    unfolding answerWords
-    reading-wants e g = told (by e) (ap answerWords e) (omega arith) g
-
-    pub reading-record : {a n : ℕ} {r : UsnRecord} → x .answer ≡ Record a n r → {o′ o″ row : List ℕ} → o′ ≡ sets o 0 (2 ∷ a ∷ n ∷ []) → row ≡ recordWords r
-        → o″ ≡ sets o′ 3 row → Told (readingOutcome x) l l′ o o″ 0
-    unfolding answerWords
-    reading-record {a} {n} {r} e p q g =
-        told (by e) (ap answerWords e) (omega (arith, record-words r)) (g ∙ rw (p, q) (sym (sets-append o 0 (2 ∷ a ∷ n ∷ []) (recordWords r))))
+use Rattle.usn_answers.specs.Answers.{number, unlessRefused}
+use Rattle.usn_answers.specs.Window.{readerWords, readerOf, answerWords, windowWords, readingWords, readingOutcome}
+use Rattle.usn_answers.proofs.AnswerLaws.{One, out-one, out-refused, out-answered, room-few, room-enough}
+use Rattle.usn_answers.proofs.WindowLaws.{reader-words, Told, told-refused}
+use Rattle.usn_journal_reader.specs.Window.{onWindow, newCall, nextCall, giveCall, giveBuffer}
 
 -- a new window
 module _ (total : ℕ) (l : List ℕ) where
@@ -134,16 +83,6 @@ module _ (l b bytes o : List ℕ) where
   give-answers h k e f g t =
       let u = rw (f, e) at t in
       rw (window-answers l o _ h k) (u .0, (u .1 .0, ((rw e at g) ∙ buffer-kept b bytes (readerOf l), u .1 .1)))
-
--- the words that a call leaves are those of its window: the next call reads it back
-pub reader-again : (w : UsnJournalReader) (l : List ℕ) → readerOf (overwrite l (readerWords w)) ≡ w
-unfolding readerWords
-reader-again w l =
-    ap (λ (b : Bool). record { start = w .start; position = w .position; end = w .end; held = w .held; total = w .total; ended = b }) (flag (w .ended))
-  where
-    flag : (b : Bool) → not (eqb (cond b 1 0) 0) ≡ b
-    flag true = refl
-    flag false = refl
 
 -- giving never answers a record: its answer has three words, or none where it is refused
 pub give-words : (n k : ℕ) (w : UsnJournalReader) → length (readingWords (giveOf n k w)) ≤ 3

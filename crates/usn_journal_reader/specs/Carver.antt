@@ -7,7 +7,7 @@ use Rattle.walk.specs.Outcome.{Outcome}
 use Rattle.usn_carver.specs.Settings.{standard}
 use Rattle.usn_carver.specs.Carve.{carving, recordsIn}
 use Rattle.usn_carver.specs.declared.CarvingStats.{CarvingStats}
-use Rattle.usn_journal_reader.specs.Answers.{withRoom}
+use Rattle.usn_answers.specs.Answers.{withRoom}
 
 -- carving s, with lent lists for the records' places and for the counters
 abbrev pub carveCall : List ℕ → List ℕ → List ℕ → Outcome CarvingStats

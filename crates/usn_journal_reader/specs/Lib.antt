@@ -1,4 +1,3 @@
-pub mod Answers
 pub mod Journal
 pub mod Window
 pub mod Carver

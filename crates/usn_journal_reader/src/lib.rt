@@ -10,33 +10,34 @@
 //
 // Every function here is proved, and none has a `requires`. A refused call writes nothing, and one that answers writes the words
 // of its answer alone: those past them stay as they were.
-mod carver;
-mod journal;
-mod record_words;
-mod window;
-
 ghost use mathlib.Core.Path.{_≡_};
 ghost use lib.ListN.{length};
 ghost use Rattle.walk.specs.Lists.{flatten, listAfter, placeWords};
 ghost use Rattle.usn_record.specs.Layout.{v2, v3};
 ghost use Rattle.usn_record.specs.Record.{parsed, listed, recordWords};
-ghost use Rattle.usn_journal_reader.specs.Answers.{number, written};
+ghost use Rattle.usn_answers.specs.Answers.{number, written};
+ghost use Rattle.usn_answers.specs.Window.{readerWords, windowWords, readingWords};
 ghost use Rattle.usn_carver.specs.Events.{statsWords};
 ghost use Rattle.usn_journal_reader.specs.Carver.{carveCall, carvedWords};
 ghost use Rattle.usn_journal_reader.specs.Journal.{journalCall, journalWords};
-ghost use Rattle.usn_journal_reader.specs.Window.{readerWords, windowWords, readingWords, newCall, nextCall, giveCall, giveBuffer};
-use crate::carver::STATS_WORDS;
-use crate::carver::put_stats;
-use crate::journal::JOURNAL_WORDS;
-use crate::journal::put_count;
-use crate::record_words::put_record;
-use crate::window::ANSWER_WORDS;
-use crate::window::READER_WORDS;
-use crate::window::put_reader;
-use crate::window::put_reading;
-use crate::window::reader_of;
+ghost use Rattle.usn_journal_reader.specs.Window.{newCall, nextCall, giveCall, giveBuffer};
+use usn_answers::carver::put_stats;
+use usn_answers::journal::put_count;
+use usn_answers::record_words::put_record;
+use usn_answers::window::put_reader;
+use usn_answers::window::put_reading;
+use usn_answers::window::reader_of;
 use usn_reader::UsnJournalReader;
 use walk::LIST_FULL;
+
+// The words of a scan's answer.
+const JOURNAL_WORDS: usize = 1;
+// Those of carving's answer.
+const STATS_WORDS: usize = 5;
+// Those of a window.
+const READER_WORDS: usize = 6;
+// And those of a window's longest answer, a record's.
+const ANSWER_WORDS: usize = 22;
 
 // The version 2 record that data begins with, as 19 words. Answers 0, or refuses: 1 data is above the domain, 2 shorter than
 // 60 bytes, 3 the length field is outside 60..65536, 4 it passes data, 5 fewer than 19 words are lent.

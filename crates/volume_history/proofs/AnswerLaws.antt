@@ -4,8 +4,8 @@ use mathlib.Core.Path.{_≡_, refl, ap}
 use mathlib.Core.List.{List, [], _∷_}
 use lib.ListN.{length}
 use lib.Seq.{sets}
-use Rattle.usn_journal_reader.specs.Journal.{countWords}
-use Rattle.usn_journal_reader.proofs.AnswerLaws.{Out, out-answered, out-refused, out-same, out-mapped, room-few, room-enough}
+use Rattle.usn_answers.specs.Journal.{countWords}
+use Rattle.usn_answers.proofs.AnswerLaws.{Out, out-answered, out-refused, out-same, out-mapped, room-few, room-enough}
 use Rattle.mft_carver.specs.Carve.{statsWords}
 use Rattle.mft_carver.specs.Carve.{outcome as carvingOutcome}
 use Rattle.mft_carver.specs.declared.MftCarving.{MftCarving}
@@ -14,7 +14,7 @@ use Rattle.mft_carver.specs.declared.MftCarvingStats.{MftCarvingStats}
 use Rattle.walk.specs.Lists.{listAfter}
 use Rattle.walk.specs.Outcome.{Outcome}
 use Rattle.walk.specs.Refusals.{listFull}
-use Rattle.usn_journal_reader.specs.Answers.{number, withRoom}
+use Rattle.usn_answers.specs.Answers.{number, withRoom}
 use Rattle.entry_table.specs.Table.{Table}
 use Rattle.entry_table.specs.Storing.{usedAfter, wordsAfter}
 use Rattle.entry_table.specs.Storing.{outcome as storingOutcome}

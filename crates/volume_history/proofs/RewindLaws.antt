@@ -9,8 +9,8 @@ use Rattle.walk.specs.Lists.{listAfter}
 use Rattle.walk.specs.Outcome.{Outcome, refused, answered, mapOutcome}
 use Rattle.walk.specs.Refusals.{listFull}
 use Rattle.walk.proofs.ListLaws.{sets-append}
-use Rattle.usn_journal_reader.specs.Answers.{number, withRoom}
-use Rattle.usn_journal_reader.proofs.AnswerLaws.{One, Out, out-one, out-answered, room-few, room-enough}
+use Rattle.usn_answers.specs.Answers.{number, withRoom}
+use Rattle.usn_answers.proofs.AnswerLaws.{One, Out, out-one, out-answered, room-few, room-enough}
 use Rattle.chain.specs.declared.ResolvedPath.{ResolvedPath}
 use Rattle.rewind.specs.Starting.{Tables, firstAfter, forwardAfter, startOutcome}
 use Rattle.rewind.specs.Stepping.{Next, ended, next, mapNext, Step, rewindAfter, wordsAfter, chainAfter}

@@ -4,7 +4,7 @@ use mathlib.Core.List.{List}
 use lib.ListN.{length}
 use Rattle.walk.specs.Lists.{flatten}
 use Rattle.walk.specs.Outcome.{Outcome}
-use Rattle.usn_journal_reader.specs.Answers.{withRoom}
+use Rattle.usn_answers.specs.Answers.{withRoom}
 use Rattle.mft_carver.specs.Settings.{standard}
 use Rattle.mft_carver.specs.Carve.{carving, entriesIn, entryWords}
 use Rattle.mft_carver.specs.declared.MftCarvingStats.{MftCarvingStats}

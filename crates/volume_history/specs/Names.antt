@@ -3,7 +3,7 @@ use Prim.Native.Nat.{ℕ}
 use mathlib.Core.List.{List}
 use lib.ListN.{length}
 use Rattle.walk.specs.Outcome.{Outcome}
-use Rattle.usn_journal_reader.specs.Answers.{withRoom}
+use Rattle.usn_answers.specs.Answers.{withRoom}
 use Rattle.utf16.specs.Decoding.{textOf, decoding}
 
 -- decoding s, with a lent text, and a lent list for its length

@@ -4,8 +4,8 @@ use mathlib.Core.List.{List}
 use mathlib.Core.Bool.{Bool}
 use lib.ListN.{length}
 use Rattle.walk.specs.Outcome.{Outcome}
-use Rattle.usn_journal_reader.specs.Answers.{withRoom}
-use Rattle.usn_journal_reader.specs.Journal.{countWords}
+use Rattle.usn_answers.specs.Answers.{withRoom}
+use Rattle.usn_answers.specs.Journal.{countWords}
 use Rattle.entry_table.specs.Names.{lengthsOf}
 use Rattle.entry_table.specs.Table.{Table, table}
 use Rattle.entry_table.specs.Storing.{inserting}

@@ -3,7 +3,7 @@ ghost use mathlib.Core.Path.{_≡_};
 ghost use Prim.Native.Nat.{_≤_};
 ghost use lib.ListN.{length};
 ghost use Rattle.walk.specs.Lists.{listAfter};
-ghost use Rattle.usn_journal_reader.specs.Answers.{number};
+ghost use Rattle.usn_answers.specs.Answers.{number};
 ghost use Rattle.chain.specs.Tracing.{outcome as chainOutcome};
 ghost use Rattle.path.specs.Telling.{outcome as pathOutcome};
 ghost use Rattle.volume_history.specs.Path.{endNumbers, resolvedWords, toldWords};

@@ -5,7 +5,7 @@ ghost use Prim.Native.Nat.{_≤_};
 ghost use lib.ListN.{length};
 ghost use lib.Seq.{sets};
 ghost use Rattle.walk.specs.Lists.{listAfter};
-ghost use Rattle.usn_journal_reader.specs.Answers.{number};
+ghost use Rattle.usn_answers.specs.Answers.{number};
 ghost use Rattle.rewind.specs.Starting.{startOutcome};
 ghost use Rattle.rewind.specs.Stepping.{outcome as stepOutcome};
 ghost use Rattle.rewind.specs.Telling.{toldOutcome};

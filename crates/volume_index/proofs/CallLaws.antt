@@ -10,9 +10,9 @@ use Rattle.walk.specs.Lists.{listAfter, overwrite}
 use Rattle.walk.specs.Refusals.{listFull}
 use Rattle.walk.proofs.ChoiceLaws.{cond-cases}
 use Rattle.walk.proofs.ListLaws.{sets-front}
-use Rattle.usn_journal_reader.specs.Answers.{number, withRoom, unlessRefused}
-use Rattle.usn_journal_reader.specs.Journal.{countWords}
-use Rattle.usn_journal_reader.proofs.AnswerLaws.{Out, out-same, out-mapped, room-few, room-enough}
+use Rattle.usn_answers.specs.Answers.{number, withRoom, unlessRefused}
+use Rattle.usn_answers.specs.Journal.{countWords}
+use Rattle.usn_answers.proofs.AnswerLaws.{Out, out-same, out-mapped, room-few, room-enough}
 use Rattle.entry_table.specs.Table.{Table}
 use Rattle.entry_table.specs.Storing.{usedAfter, wordsAfter}
 use Rattle.entry_table.specs.Storing.{outcome as storingOutcome}

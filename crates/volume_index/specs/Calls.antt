@@ -3,7 +3,7 @@ use Prim.Native.Nat.{ℕ}
 use mathlib.Core.List.{List, [], _∷_}
 use lib.ListN.{length}
 use Rattle.walk.specs.Outcome.{Outcome, answered}
-use Rattle.usn_journal_reader.specs.Answers.{withRoom}
+use Rattle.usn_answers.specs.Answers.{withRoom}
 use Rattle.rewind.specs.declared.Rewind.{Rewind}
 use Rattle.rewind_index.specs.Running.{Run, ran, runAnswer}
 use Rattle.rewind_index.specs.declared.RewindRun.{RewindRun}

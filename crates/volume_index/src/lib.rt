@@ -9,7 +9,7 @@
 ghost use mathlib.Core.Path.{_≡_};
 ghost use Rattle.walk.specs.Outcome.{mapOutcome};
 ghost use Rattle.walk.specs.Lists.{listAfter};
-ghost use Rattle.usn_journal_reader.specs.Answers.{number, unlessRefused};
+ghost use Rattle.usn_answers.specs.Answers.{number, unlessRefused};
 ghost use lib.ListN.{length};
 ghost use Rattle.entry_table.specs.Slots.{slotsIn};
 ghost use Rattle.entry_table.specs.Storing.{wordsAfter};

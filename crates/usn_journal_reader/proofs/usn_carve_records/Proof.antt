@@ -1,7 +1,7 @@
 -- Too few words are refused first; otherwise carving's equations say what goes out.
 use borrow.Author.Needs.{needs}
 use denote.Ref.{now}
-use Rattle.usn_journal_reader.proofs.AnswerLaws.{out-same, both-short, both-answered}
+use Rattle.usn_answers.proofs.AnswerLaws.{out-same, both-short, both-answered}
 use Rattle.usn_journal_reader.proofs.usn_carve_records.Statement.{statement}
 use Rattle.usn_journal_reader.proofs.usn_carve_records.Tie as tie
 

@@ -1,8 +1,8 @@
 -- The answer goes out by its own equation.
 use borrow.Author.Needs.{needs}
 use denote.Ref.{now}
-use Rattle.usn_journal_reader.proofs.RecordLaws.{record-parsed}
-use Rattle.usn_journal_reader.proofs.AnswerLaws.{out-one}
+use Rattle.usn_answers.proofs.RecordLaws.{record-parsed}
+use Rattle.usn_answers.proofs.AnswerLaws.{out-one}
 use Rattle.usn_journal_reader.proofs.usn_listed_record.Statement.{statement}
 use Rattle.usn_journal_reader.proofs.usn_listed_record.Tie as tie
 

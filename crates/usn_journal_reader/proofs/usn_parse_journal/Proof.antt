@@ -1,7 +1,7 @@
 -- Too few words are refused first; otherwise the scan's equations say what goes out.
 use borrow.Author.Needs.{needs}
 use denote.Ref.{now}
-use Rattle.usn_journal_reader.proofs.AnswerLaws.{both-short, both-answered}
+use Rattle.usn_answers.proofs.AnswerLaws.{both-short, both-answered}
 use Rattle.usn_journal_reader.proofs.JournalLaws.{journal-out}
 use Rattle.usn_journal_reader.proofs.usn_parse_journal.Statement.{statement}
 use Rattle.usn_journal_reader.proofs.usn_parse_journal.Tie as tie

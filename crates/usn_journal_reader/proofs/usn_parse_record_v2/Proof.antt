@@ -1,8 +1,8 @@
 -- The answer goes out by its own equation.
 use borrow.Author.Needs.{needs}
 use denote.Ref.{now}
-use Rattle.usn_journal_reader.proofs.RecordLaws.{record-parsed}
-use Rattle.usn_journal_reader.proofs.AnswerLaws.{out-one}
+use Rattle.usn_answers.proofs.RecordLaws.{record-parsed}
+use Rattle.usn_answers.proofs.AnswerLaws.{out-one}
 use Rattle.usn_journal_reader.proofs.usn_parse_record_v2.Statement.{statement}
 use Rattle.usn_journal_reader.proofs.usn_parse_record_v2.Tie as tie
 

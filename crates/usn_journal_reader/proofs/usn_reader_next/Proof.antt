@@ -1,7 +1,8 @@
 -- Lists that are too short are refused first; otherwise the window's equation says what goes out.
 use borrow.Author.Needs.{needs}
 use denote.Ref.{now}
-use Rattle.usn_journal_reader.proofs.WindowLaws.{told-refused, short-reader, short-out, next-answers}
+use Rattle.usn_answers.proofs.WindowLaws.{told-refused}
+use Rattle.usn_journal_reader.proofs.WindowLaws.{short-reader, short-out, next-answers}
 use Rattle.usn_journal_reader.proofs.usn_reader_next.Statement.{statement}
 use Rattle.usn_journal_reader.proofs.usn_reader_next.Tie as tie
 

@@ -1,6 +1,6 @@
 -- Too few words are refused first; otherwise the chain's equations say what goes out.
 use denote.Ref.{now}
-use Rattle.usn_journal_reader.proofs.AnswerLaws.{out-same, out-mapped}
+use Rattle.usn_answers.proofs.AnswerLaws.{out-same, out-mapped}
 use Rattle.volume_history.proofs.AnswerLaws.{traces-short, traces-answered}
 use borrow.Author.Needs.{needs}
 use Rattle.volume_history.proofs.path_chain.Statement.{statement}

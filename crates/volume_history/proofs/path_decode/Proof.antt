@@ -1,6 +1,6 @@
 -- Too few words are refused first; otherwise decoding's equations say what goes out.
 use denote.Ref.{now}
-use Rattle.usn_journal_reader.proofs.AnswerLaws.{out-same, out-mapped, both-short, both-answered}
+use Rattle.usn_answers.proofs.AnswerLaws.{out-same, out-mapped, both-short, both-answered}
 use borrow.Author.Needs.{needs}
 use Rattle.volume_history.proofs.path_decode.Statement.{statement}
 use Rattle.volume_history.proofs.path_decode.Tie as tie

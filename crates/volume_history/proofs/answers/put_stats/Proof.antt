@@ -1,7 +1,7 @@
 -- The counters' words, or the refusal.
 use borrow.Author.Needs.{needs}
 use denote.Ref.{now}
-use Rattle.usn_journal_reader.proofs.AnswerLaws.{out-one}
+use Rattle.usn_answers.proofs.AnswerLaws.{out-one}
 use Rattle.volume_history.proofs.AnswerLaws.{stats-answered}
 use Rattle.volume_history.proofs.answers.put_stats.Statement.{statement}
 use Rattle.volume_history.proofs.answers.put_stats.Tie as tie

@@ -1,6 +1,6 @@
 -- The state's words, or the refusal.
 use denote.Ref.{now}
-use Rattle.usn_journal_reader.proofs.AnswerLaws.{out-one}
+use Rattle.usn_answers.proofs.AnswerLaws.{out-one}
 use Rattle.volume_history.proofs.RewindLaws.{start-answered}
 use borrow.Author.Needs.{needs}
 use Rattle.volume_history.proofs.rewinds.put_start.Statement.{statement}

@@ -1,0 +1,40 @@
+// Carving's answer as a number and words.
+ghost use mathlib.Core.Path.{_≡_};
+ghost use Prim.Native.Nat.{_≤_};
+ghost use lib.ListN.{length};
+ghost use Rattle.walk.specs.Lists.{listAfter};
+ghost use Rattle.usn_carver.specs.Carve.{outcome};
+ghost use Rattle.usn_answers.specs.Answers.{number};
+ghost use Rattle.usn_carver.specs.Events.{statsWords};
+use usn_carver::Carving;
+use usn_carver::CarvingStats;
+use walk::put_words;
+
+// Carving's answer: 0 with the counters in front of the lent words, or the refusal.
+pub fn put_stats(carving: Carving, out: &mut [u64]) -> u32
+    requires { ⌜ 5 ≤ length (now out) ⌝ }
+    ensures { λ r. ⌜ r ≡ number (outcome carving) ⌝ }
+    ensures { λ _. ⌜ now (out .exit) ≡ listAfter statsWords (outcome carving) (now (out .entry)) ⌝ }
+{
+    match carving {
+        Carving::Carved(stats) => {
+            let row = stats_row(stats);
+            put_words(out, 0, &row);
+            0
+        }
+        Carving::Refused(n) => n,
+    }
+}
+
+// The counters, a word each.
+fn stats_row(stats: CarvingStats) -> [u64; 5]
+    ensures { λ row. ⌜ row ≡ statsWords stats ⌝ }
+{
+    [
+        stats.bytes_scanned as u64,
+        stats.candidates_examined,
+        stats.records_carved as u64,
+        stats.rejected_timestamp,
+        stats.rejected_structure,
+    ]
+}
