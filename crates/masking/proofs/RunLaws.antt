@@ -1,10 +1,10 @@
 -- A run of many steps in one call is a list of calls: one next with text for each step, with the room that the texts before it leave (`as-steps` and
--- `as-steps-left` of `rewind_index`). So what is stated of every list of calls is stated of those with runs in them. Assumes nothing.
+-- `as-steps-left` of `rewind_steps`). So what is stated of every list of calls is stated of those with runs in them. Assumes nothing.
 use Prim.Native.Nat.{ℕ}
 use mathlib.Core.Path.{_≡_, refl, ap}
 use mathlib.Core.List.{List, [], _∷_, map}
 use Rattle.walk.specs.Outcome.{Outcome, mapOutcome}
-use Rattle.rewind_index.specs.Calls.{calls, Left, callsLeave}
+use Rattle.rewind_steps.specs.Calls.{calls, Left, callsLeave}
 use Rattle.masking.specs.Calls.{Sources, State, Call, nextText, Answer, step, rewindOf, Done, resultOf, nextResult, results}
 
 -- what the calls of a list come to, and the state after the last of them

@@ -20,9 +20,10 @@ use Rattle.rewind.specs.Stepping.{turning, forwardTable}
 use Rattle.rewind.specs.Telling.{told}
 use Rattle.rewind.specs.declared.Rewind.{Rewind}
 use Rattle.rewind.proofs.TurnLaws.{passed, turn-refused}
-use Rattle.rewind_index.specs.declared.RewindRun.{RewindRun}
-use Rattle.rewind_index.specs.Running.{Run, runFrom, onward, running, ran, runAnswer, indexes, runTable, headsRun, nextsRun}
-use Rattle.rewind_index.proofs.RunLaws.{stopAt, run-turn, run-none, Runs}
+use Rattle.rewind_steps.specs.Running.{Run, runFrom, onward, running, ran, runAnswer, runTable}
+use Rattle.rewind_steps.specs.declared.RewindRun.{RewindRun}
+use Rattle.rewind_steps.proofs.RunLaws.{stopAt, run-turn, run-none, Runs}
+use Rattle.rewind_index.specs.Indexing.{indexes, headsRun, nextsRun}
 
 module _ (journal image records words : List ℕ) (r : Rewind) (heads nexts ends text : List ℕ) where
   abbrev t : Table

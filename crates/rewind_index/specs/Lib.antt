@@ -1,3 +1,1 @@
-pub mod Running
-pub mod Making
-pub mod Calls
+pub mod Indexing

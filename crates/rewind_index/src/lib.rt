@@ -6,7 +6,6 @@
 //
 // Every function here is proved. The public calls have no `requires`.
 mod backward;
-pub mod steps;
 
 ghost use mathlib.Core.Path.{_≡_};
 ghost use lib.ListN.{length};
@@ -16,9 +15,9 @@ ghost use Rattle.entry_table.specs.Slots.{slotsIn};
 ghost use Rattle.entry_table.specs.Table.{table};
 ghost use Rattle.entry_index.specs.Index.{headsLeft, nextsLeft};
 ghost use Rattle.rewind.specs.Starting.{started, begun, firstAfter, forwardAfter, startOutcome, Tables};
-ghost use Rattle.rewind_index.specs.Running.{ran, runAnswer, indexes, headsRun, nextsRun};
+ghost use Rattle.rewind_steps.specs.Running.{ran, runAnswer};
+ghost use Rattle.rewind_index.specs.Indexing.{indexes, headsRun, nextsRun};
 use crate::backward::add_backward;
-use crate::steps::run;
 use entry_index::links::build;
 use entry_index::links::is_enough;
 use entry_table::Stored;
@@ -28,16 +27,10 @@ use rewind::Started;
 use rewind::backward::has_room;
 use rewind::rewind_start;
 use rewind::turn::refusal;
+use rewind_steps::RewindRun;
+use rewind_steps::steps::run;
 use walk::TABLE_FULL;
 use walk::put_words;
-
-// What a run of steps answers: how many were made, 0 or the refusal of the step before which it stopped, and the rewind after the
-// last one that was made.
-pub struct RewindRun {
-    pub steps: usize,
-    pub refusal: u32,
-    pub rewind: Rewind,
-}
 
 // What `rewind::rewind_start` does, by way of an index of the first table.
 pub fn rewind_start_indexed(

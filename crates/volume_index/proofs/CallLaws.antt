@@ -19,8 +19,8 @@ use Rattle.entry_table.specs.Storing.{outcome as storingOutcome}
 use Rattle.entry_table.specs.declared.Stored.{Stored}
 use Rattle.entry_index.specs.Index.{enough, headsLeft, nextsLeft}
 use Rattle.rewind.specs.Starting.{Tables, firstAfter, forwardAfter}
-use Rattle.rewind_index.specs.Running.{Run, runAnswer}
-use Rattle.rewind_index.specs.declared.RewindRun.{RewindRun}
+use Rattle.rewind_steps.specs.Running.{Run, runAnswer}
+use Rattle.rewind_steps.specs.declared.RewindRun.{RewindRun}
 use Rattle.volume_history.specs.Table.{usedWords}
 use Rattle.volume_history.specs.Rewind.{startWords}
 use Rattle.volume_index.specs.Calls.{rowOf, runWords}

@@ -2,8 +2,8 @@
 use mathlib.Core.Path.{ap, sym, _∙_}
 use Rattle.entry_table.specs.Table.{slotOr}
 use borrow.Author.Needs.{needs}
-use Rattle.rewind_index.proofs.steps.slot_for.Statement.{statement}
-use Rattle.rewind_index.proofs.steps.slot_for.Tie as tie
+use Rattle.rewind_steps.proofs.steps.slot_for.Statement.{statement}
+use Rattle.rewind_steps.proofs.steps.slot_for.Tie as tie
 
 find-requires : tie.Need-find-requires
 find-requires c κs = search needs

@@ -27,10 +27,10 @@ use Rattle.rewind.specs.declared.entries.RecordEntry.{RecordEntry}
 use Rattle.rewind.proofs.EntryLaws.{entry-inside}
 use Rattle.rewind.proofs.RecordLaws.{number-answered}
 use Rattle.rewind.proofs.TurnLaws.{Passed, passed, test-none, turn-end, turn-next}
-use Rattle.rewind_index.specs.Making.{stateOf, making}
-use Rattle.rewind_index.specs.declared.steps.Made.{Made}
-use Rattle.rewind_index.specs.declared.steps.Made.the-variants.{End}
-use Rattle.rewind_index.proofs.MakeLaws.{Comes}
+use Rattle.rewind_steps.specs.Making.{stateOf, making}
+use Rattle.rewind_steps.specs.declared.steps.Made.{Made}
+use Rattle.rewind_steps.specs.declared.steps.Made.the-variants.{End}
+use Rattle.rewind_steps.proofs.MakeLaws.{Comes}
 
 module _ (journal image l words : List ℕ) (used position : ℕ) (pass : refusalOf (environmentOf journal image l) (table words used) ≡ 0) where
   abbrev env : Environment

@@ -2,18 +2,13 @@
 -- the end of the records, or when as many steps are made as were asked for.
 use Prim.Native.Nat.{ℕ, zero, suc, _+_, _-_}
 use mathlib.Core.List.{List, [], _∷_, _++_}
-use mathlib.Core.Bool.{Bool, cond, _&&_}
 use lib.ListN.{length}
-use lib.Dec.{ltb, eqb}
 use Rattle.walk.specs.Outcome.{Outcome, refused, answered}
-use Rattle.entry_table.specs.Slots.{slotsIn}
-use Rattle.entry_table.specs.Table.{Table, table}
-use Rattle.entry_index.specs.Index.{enough, headsOf, nextsOf}
-use Rattle.rewind.specs.Environment.{environmentOf, refusalOf}
+use Rattle.entry_table.specs.Table.{Table}
 use Rattle.rewind.specs.Stepping.{Next, ended, next, Step, forwardTable}
 use Rattle.rewind.specs.Telling.{recordText, told}
 use Rattle.rewind.specs.declared.Rewind.{Rewind}
-use Rattle.rewind_index.specs.declared.RewindRun.{RewindRun}
+use Rattle.rewind_steps.specs.declared.RewindRun.{RewindRun}
 
 -- where a run stands: the words of the forward table, the state of the rewind, the texts so far, one behind the other, where each of them ends, and 0 or the
 -- refusal of the step that stopped it
@@ -61,16 +56,6 @@ ran journal image records words r room asked = running journal image records roo
 abbrev pub runAnswer : Run → RewindRun
 runAnswer r = record { steps = length (r .ends); refusal = r .refusal; rewind = r .rewind }
 
--- an index is built where a step is asked for, no test of the first one refuses, and the lent words are enough; at the end it is that of the forward table
-unfoldable pub indexes : List ℕ → List ℕ → List ℕ → List ℕ → Rewind → ℕ → List ℕ → List ℕ → Bool
-indexes journal image records words r asked heads nexts =
-    ltb 0 asked && (eqb (refusalOf (environmentOf journal image records) (forwardTable words r)) 0 && enough (slotsIn words) heads nexts)
-
+-- the forward table after it
 abbrev pub runTable : Run → Table
 runTable r = forwardTable (r .words) (r .rewind)
-
-abbrev pub headsRun : Bool → Run → List ℕ → List ℕ
-headsRun built r heads = cond built (headsOf (length heads) (runTable r)) heads
-
-abbrev pub nextsRun : Bool → Run → List ℕ → List ℕ → List ℕ
-nextsRun built r heads nexts = cond built (nextsOf (length heads) (runTable r) nexts) nexts

@@ -4,10 +4,10 @@ use native.Mathlib.Omega.{arith}
 use Rattle.entry_table.specs.Table.{table}
 use Rattle.entry_table.specs.Storing.{outcome}
 use Rattle.rewind.proofs.EntryLaws.{added-forward}
-use Rattle.rewind_index.proofs.MakeLaws.{make-none, make-refused, make-asks, make-told}
+use Rattle.rewind_steps.proofs.MakeLaws.{make-none, make-refused, make-asks, make-told}
 use borrow.Author.Needs.{needs}
-use Rattle.rewind_index.proofs.steps.make_step.Statement.{statement}
-use Rattle.rewind_index.proofs.steps.make_step.Tie as tie
+use Rattle.rewind_steps.proofs.steps.make_step.Statement.{statement}
+use Rattle.rewind_steps.proofs.steps.make_step.Tie as tie
 
 slot-for-requires : tie.Need-slot-for-requires
 slot-for-requires c κs =

@@ -28,9 +28,9 @@ use Rattle.rewind.specs.Entries.{forward}
 use Rattle.rewind.specs.Stepping.{Next, next, Step, stepWith}
 use Rattle.rewind.specs.Telling.{recordText, telling}
 use Rattle.rewind.specs.declared.entries.RecordEntry.{RecordEntry}
-use Rattle.rewind_index.specs.Making.{making, madeOf, tableAfter, textAfter}
-use Rattle.rewind_index.specs.declared.steps.Made.{Made}
-use Rattle.rewind_index.specs.declared.steps.Made.the-variants.{To, Refused}
+use Rattle.rewind_steps.specs.Making.{making, madeOf, tableAfter, textAfter}
+use Rattle.rewind_steps.specs.declared.steps.Made.{Made}
+use Rattle.rewind_steps.specs.declared.steps.Made.the-variants.{To, Refused}
 
 -- what a step that comes to o has to leave, from a table t, an index of m heads beside the words of nexts, and a text: its answer, the words of the
 -- table, the heads, the nexts and the text

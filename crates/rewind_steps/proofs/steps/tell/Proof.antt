@@ -8,10 +8,10 @@ use Rattle.entry_table.specs.Slots.{putAt}
 use Rattle.entry_table.specs.Table.{table}
 use Rattle.entry_table.proofs.PutLaws.{length-put}
 use Rattle.entry_index.specs.Index.{headsOf, nextsOf}
-use Rattle.rewind_index.proofs.MakeLaws.{tell-to, tell-full}
+use Rattle.rewind_steps.proofs.MakeLaws.{tell-to, tell-full}
 use borrow.Author.Needs.{needs}
-use Rattle.rewind_index.proofs.steps.tell.Statement.{statement}
-use Rattle.rewind_index.proofs.steps.tell.Tie as tie
+use Rattle.rewind_steps.proofs.steps.tell.Statement.{statement}
+use Rattle.rewind_steps.proofs.steps.tell.Tie as tie
 
 put-behind-requires : tie.Need-put-behind-requires
 put-behind-requires c κs =

@@ -2,11 +2,11 @@
 use Prim.Native.Nat.{_-_}
 use native.Mathlib.Omega.{arith}
 use lib.ListN.{length}
-use Rattle.rewind_index.specs.Making.{stateOf}
-use Rattle.rewind_index.proofs.RunLaws.{Going, going-start, going-index, going-heads, going-nexts, going-room, going-all, going-end, going-refused, going-made, going-near}
+use Rattle.rewind_steps.specs.Making.{stateOf}
+use Rattle.rewind_steps.proofs.RunLaws.{Going, going-start, going-index, going-heads, going-nexts, going-room, going-all, going-end, going-refused, going-made, going-near}
 use borrow.Author.Needs.{needs}
-use Rattle.rewind_index.proofs.steps.run.Statement.{statement}
-use Rattle.rewind_index.proofs.steps.run.Tie as tie
+use Rattle.rewind_steps.proofs.steps.run.Statement.{statement}
+use Rattle.rewind_steps.proofs.steps.run.Tie as tie
 
 abbrev Inv-loop : tie.InvT-loop
 Inv-loop journal image records forward₀ heads₀ nexts₀ ends₀ text₀ used₀ position₀ at₀ i₀ read₀ forward heads nexts ends text used position at i read = Going journal image records forward₀ (stateOf used₀ position₀) heads₀ nexts₀ ends₀ text₀ forward heads nexts ends text used position at i

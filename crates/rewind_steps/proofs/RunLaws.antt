@@ -17,13 +17,13 @@ use Rattle.rewind.specs.Environment.{environmentOf, recordsIn, refusalOf}
 use Rattle.rewind.specs.Stepping.{Next, ended, next, Step, forwardTable}
 use Rattle.rewind.specs.Telling.{recordText, told}
 use Rattle.rewind.specs.declared.Rewind.{Rewind}
-use Rattle.rewind_index.specs.declared.RewindRun.{RewindRun}
-use Rattle.rewind_index.specs.Running.{Run, runFrom, onward, running, ran, runAnswer, runTable}
-use Rattle.rewind_index.specs.Making.{stateOf, madeOf}
-use Rattle.rewind_index.specs.declared.steps.Made.{Made}
-use Rattle.rewind_index.specs.declared.steps.Made.the-variants.{To, End, Refused}
-use Rattle.rewind_index.proofs.MakeLaws.{Comes}
-use Rattle.rewind_index.proofs.StepLaws.{MadeStep, made-step}
+use Rattle.rewind_steps.specs.declared.RewindRun.{RewindRun}
+use Rattle.rewind_steps.specs.Running.{Run, runFrom, onward, running, ran, runAnswer, runTable}
+use Rattle.rewind_steps.specs.Making.{stateOf, madeOf}
+use Rattle.rewind_steps.specs.declared.steps.Made.{Made}
+use Rattle.rewind_steps.specs.declared.steps.Made.the-variants.{To, End, Refused}
+use Rattle.rewind_steps.proofs.MakeLaws.{Comes}
+use Rattle.rewind_steps.proofs.StepLaws.{MadeStep, made-step}
 
 -- what is written behind what is written
 pub written-behind : (l vs more : List ℕ) → length vs + length more ≤ length l → sets (overwrite l vs) (length vs) more ≡ overwrite l (vs ++ more)

@@ -6,7 +6,7 @@ use Rattle.walk.specs.Outcome.{Outcome, refused, answered}
 use Rattle.rewind.specs.Stepping.{Next, ended, next, Step, wordsAfter, rewindAfter}
 use Rattle.rewind.specs.Telling.{told}
 use Rattle.rewind.specs.declared.Rewind.{Rewind}
-use Rattle.rewind_index.specs.Running.{Run, oneMore, onward}
+use Rattle.rewind_steps.specs.Running.{Run, oneMore, onward}
 
 -- the rooms of the calls after one, by what it comes to: none where it is refused or no record is left
 abbrev pub roomsOn : (Run → List ℕ) → List ℕ → List ℕ → Run → Outcome (Next Step) → List ℕ

@@ -15,8 +15,8 @@ ghost use Rattle.entry_index.specs.Index.{headsOf, nextsOf, Indexed};
 ghost use Rattle.rewind.specs.Environment.{environmentOf, refusalOf};
 ghost use Rattle.rewind.specs.Stepping.{forwardTable};
 ghost use Rattle.rewind.specs.Telling.{told, telling};
-ghost use Rattle.rewind_index.specs.Running.{ran, runAnswer, runTable};
-ghost use Rattle.rewind_index.specs.Making.{stateOf, making, madeOf, tableAfter, textAfter};
+ghost use Rattle.rewind_steps.specs.Running.{ran, runAnswer, runTable};
+ghost use Rattle.rewind_steps.specs.Making.{stateOf, making, madeOf, tableAfter, textAfter};
 use crate::RewindRun;
 use entry_index::links::add;
 use entry_index::links::build;
@@ -200,7 +200,7 @@ fn run_step(
 }
 
 // As many steps as there are words for the ends of their texts, where the tests have passed.
-pub(crate) fn run(
+pub fn run(
     journal: &[u8],
     image: &[u8],
     records: &[usize],

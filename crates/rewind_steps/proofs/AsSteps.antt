@@ -7,8 +7,8 @@ use lib.ListN.{length}
 use Rattle.walk.specs.Outcome.{Outcome, refused, answered}
 use Rattle.rewind.specs.Stepping.{Next, ended, next, Step, wordsAfter, rewindAfter}
 use Rattle.rewind.specs.Telling.{told}
-use Rattle.rewind_index.specs.Running.{Run, oneMore, onward, running}
-use Rattle.rewind_index.specs.Calls.{roomsOn, rooms, calls, Left, callsLeave, gathered}
+use Rattle.rewind_steps.specs.Running.{Run, oneMore, onward, running}
+use Rattle.rewind_steps.specs.Calls.{roomsOn, rooms, calls, Left, callsLeave, gathered}
 
 module _ (journal image records : List ℕ) (room : ℕ) where
   abbrev run : ℕ → Run → Run

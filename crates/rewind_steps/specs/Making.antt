@@ -11,8 +11,8 @@ use Rattle.rewind.specs.Stepping.{Next, ended, next, Step, taken}
 use Rattle.rewind.specs.Telling.{recordText, nextText}
 use Rattle.rewind.specs.declared.Rewind.{Rewind}
 use Rattle.rewind.specs.declared.entries.RecordEntry.{RecordEntry}
-use Rattle.rewind_index.specs.declared.steps.Made.{Made}
-use Rattle.rewind_index.specs.declared.steps.Made.the-variants.{To, End, Refused}
+use Rattle.rewind_steps.specs.declared.steps.Made.{Made}
+use Rattle.rewind_steps.specs.declared.steps.Made.the-variants.{To, End, Refused}
 
 -- the state of a rewind by its two numbers
 abbrev pub stateOf : ℕ → ℕ → Rewind

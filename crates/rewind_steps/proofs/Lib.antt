@@ -1,0 +1,4 @@
+pub mod MakeLaws
+pub mod StepLaws
+pub mod RunLaws
+pub mod AsSteps

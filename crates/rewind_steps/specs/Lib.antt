@@ -1,0 +1,3 @@
+pub mod Running
+pub mod Making
+pub mod Calls
