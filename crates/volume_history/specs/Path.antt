@@ -1,6 +1,6 @@
 -- Paths and the decoding of stored names as C calls.
 use Prim.Native.Nat.{ℕ}
-use mathlib.Core.List.{List, [], _∷_}
+use mathlib.Core.List.{List}
 use lib.ListN.{length}
 use Rattle.walk.specs.Outcome.{Outcome}
 use Rattle.usn_answers.specs.Answers.{withRoom}
@@ -11,27 +11,7 @@ use Rattle.entry_table.specs.declared.NamePlace.{NamePlace}
 use Rattle.chain.specs.Settings.{depth}
 use Rattle.chain.specs.Chain.{Chain}
 use Rattle.chain.specs.Tracing.{tracing}
-use Rattle.chain.specs.declared.ChainEnd.{ChainEnd}
-use Rattle.chain.specs.declared.ChainEnd.the-variants.{Root, Unknown, Unresolved}
-use Rattle.chain.specs.declared.ResolvedPath.{ResolvedPath}
-use Rattle.path.specs.Telling.{Told, telling, decoding}
-use Rattle.volume_history.specs.declared.paths.EndNumbers.{EndNumbers}
-
--- an end as numbers: 0 is the root, 1 an unknown key, 2 an unresolved one, and the key follows
-abbrev pub endAs : ℕ → EntryKey → EndNumbers
-endAs kind k = record { kind = kind; entry = k .entry; sequence = k .sequence }
-
-abbrev pub endNumbers : ChainEnd → EndNumbers
-endNumbers Root = record { kind = 0; entry = 0; sequence = 0 }
-endNumbers (Unknown k) = endAs 1 k
-endNumbers (Unresolved k) = endAs 2 k
-
--- the words of a path: its names and its end; and those with the length of its text
-abbrev pub resolvedWords : ResolvedPath → List ℕ
-resolvedWords p = let e = endNumbers (p .end) in p .names ∷ e .kind ∷ e .entry ∷ e .sequence ∷ []
-
-abbrev pub toldWords : Told → List ℕ
-toldWords t = let e = endNumbers (t .path .end) in t .path .names ∷ e .kind ∷ e .entry ∷ e .sequence ∷ t .text ∷ []
+use Rattle.path.specs.Telling.{telling, decoding}
 
 -- a path with its text, with lent words for the answer
 abbrev pub resolveCall : List ℕ → List ℕ → List ℕ → ℕ → EntryKey → List ℕ → List ℕ → Outcome Chain

@@ -1,23 +1,21 @@
 -- Rewinds as C calls.
 use Prim.Native.Nat.{ℕ}
-use mathlib.Core.List.{List, [], _∷_, _++_}
+use mathlib.Core.List.{List}
 use lib.ListN.{length}
 use Rattle.walk.specs.Outcome.{Outcome, answered}
 use Rattle.usn_answers.specs.Answers.{withRoom}
 use Rattle.entry_table.specs.Table.{table}
 use Rattle.chain.specs.Chain.{resolved}
 use Rattle.rewind.specs.Starting.{Tables, started, begun}
-use Rattle.rewind.specs.Stepping.{Next, ended, next, Step, stepped, rewindAfter}
+use Rattle.rewind.specs.Stepping.{Next, Step, stepped, rewindAfter}
 use Rattle.rewind.specs.Telling.{told, toldOf}
 use Rattle.rewind.specs.declared.Rewind.{Rewind}
-use Rattle.volume_history.specs.Path.{resolvedWords, toldWords}
+use Rattle.volume_answers.specs.Path.{resolvedWords, toldWords}
+use Rattle.volume_answers.specs.Rewind.{rewindWords, nextWords}
 
--- a state, from its numbers, and as words
+-- a state, from its numbers
 abbrev pub rewindOf : ℕ → ℕ → Rewind
 rewindOf used position = record { used = used; position = position }
-
-abbrev pub rewindWords : Rewind → List ℕ
-rewindWords r = r .used ∷ r .position ∷ []
 
 -- a start, with lent words for both tables and for the state
 abbrev pub startCall : List ℕ → List ℕ → List ℕ → List ℕ → ℕ → List ℕ → List ℕ → Outcome Tables
@@ -26,11 +24,7 @@ startCall journal image records slots used forward out = withRoom 2 (length out)
 abbrev pub startWords : Tables → List ℕ
 startWords ts = rewindWords (begun ts)
 
--- an answer of a step as words: 0 the end or 1 a record, the state after it, and the words of what a record tells
-abbrev pub nextWords : {A : Type 0} → (A → List ℕ) → Rewind → Next A → List ℕ
-nextWords words r ended = 0 ∷ rewindWords r
-nextWords words r (next a) = 1 ∷ (rewindWords r ++ words a)
-
+-- the answer of a step from a state as words
 abbrev pub stepWords : (Step → List ℕ) → Rewind → Next Step → List ℕ
 stepWords words r x = nextWords words (rewindAfter (answered x) r) x
 

@@ -13,10 +13,6 @@
 //
 // Every function here is proved, and none has a `requires`. A refused call writes nothing, and one that answers writes the words
 // of its answer alone: those past them stay as they were.
-pub mod answers;
-mod paths;
-pub mod rewinds;
-
 ghost use mathlib.Core.Path.{_≡_};
 ghost use mathlib.Core.Bool.{true, false};
 ghost use Rattle.walk.specs.Lists.{listAfter};
@@ -32,31 +28,32 @@ ghost use Rattle.rewind.specs.Starting.{firstAfter, forwardAfter};
 ghost use Rattle.rewind.specs.Stepping.{wordsAfter as forwardWordsAfter};
 ghost use Rattle.rewind.specs.Stepping.{chainAfter as parentChainAfter};
 ghost use Rattle.rewind.specs.Telling.{nextText};
+ghost use Rattle.volume_answers.specs.Path.{resolvedWords, toldWords};
 ghost use Rattle.volume_history.specs.Image.{carveCall, carvedWords};
 ghost use Rattle.volume_history.specs.Names.{decodeCall, decodedBytes};
-ghost use Rattle.volume_history.specs.Path.{resolvedWords, toldWords, resolveCall, chainCall, placeCall};
+ghost use Rattle.volume_history.specs.Path.{resolveCall, chainCall, placeCall};
 ghost use Rattle.volume_history.specs.Rewind.{rewindOf, startCall, startWords, stepWords, chainStepWords, pathStepWords, chainStepCall, pathStepCall};
 ghost use Rattle.volume_history.specs.Table.{keyOf, infoOf, insertCall, seedCall, usedWords};
-use crate::answers::STATS_WORDS;
-use crate::answers::TEXT_WORDS;
-use crate::answers::USED_WORDS;
-use crate::answers::put_length;
-use crate::answers::put_stats;
-use crate::answers::put_used;
-use crate::paths::CHAIN_WORDS;
-use crate::paths::PATH_WORDS;
-use crate::paths::put_chain;
-use crate::paths::put_path;
-use crate::rewinds::CHAIN_STEP_WORDS;
-use crate::rewinds::PATH_STEP_WORDS;
-use crate::rewinds::START_WORDS;
-use crate::rewinds::put_chain_step;
-use crate::rewinds::put_path_step;
-use crate::rewinds::put_start;
 use entry_table::EntryInfo;
 use entry_table::EntryKey;
 use entry_table::NamePlace;
 use rewind::Rewind;
+use volume_answers::answers::STATS_WORDS;
+use volume_answers::answers::TEXT_WORDS;
+use volume_answers::answers::USED_WORDS;
+use volume_answers::answers::put_length;
+use volume_answers::answers::put_stats;
+use volume_answers::answers::put_used;
+use volume_answers::paths::CHAIN_WORDS;
+use volume_answers::paths::PATH_WORDS;
+use volume_answers::paths::put_chain;
+use volume_answers::paths::put_path;
+use volume_answers::rewinds::CHAIN_STEP_WORDS;
+use volume_answers::rewinds::PATH_STEP_WORDS;
+use volume_answers::rewinds::START_WORDS;
+use volume_answers::rewinds::put_chain_step;
+use volume_answers::rewinds::put_path_step;
+use volume_answers::rewinds::put_start;
 use walk::LIST_FULL;
 
 // The MFT entries in an image: for each nine words of list, namely its offset, number and sequence, its name's offset and length

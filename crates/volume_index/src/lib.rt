@@ -22,10 +22,10 @@ ghost use Rattle.volume_history.specs.Rewind.{rewindOf, startCall, startWords};
 ghost use Rattle.volume_index.specs.Calls.{rowOf, runCall, runWords};
 use rewind::Rewind;
 use rewind_steps::RewindRun;
-use volume_history::answers::USED_WORDS;
-use volume_history::answers::put_used;
-use volume_history::rewinds::START_WORDS;
-use volume_history::rewinds::put_start;
+use volume_answers::answers::USED_WORDS;
+use volume_answers::answers::put_used;
+use volume_answers::rewinds::START_WORDS;
+use volume_answers::rewinds::put_start;
 use walk::LIST_FULL;
 use walk::put_words;
 

@@ -1,7 +1,7 @@
 -- Too few words are refused first; otherwise the chain's equations say what goes out.
 use denote.Ref.{now}
 use Rattle.usn_answers.proofs.AnswerLaws.{out-same, out-mapped}
-use Rattle.volume_history.proofs.AnswerLaws.{traces-short, traces-answered}
+use Rattle.volume_history.proofs.CallLaws.{traces-short, traces-answered}
 use borrow.Author.Needs.{needs}
 use Rattle.volume_history.proofs.path_chain.Statement.{statement}
 use Rattle.volume_history.proofs.path_chain.Tie as tie

@@ -1,7 +1,7 @@
 -- Too few words are refused first; otherwise the path's equations say what goes out.
 use denote.Ref.{now}
 use Rattle.usn_answers.proofs.AnswerLaws.{out-same, out-mapped}
-use Rattle.volume_history.proofs.AnswerLaws.{tells-short, tells-answered}
+use Rattle.volume_history.proofs.CallLaws.{tells-short, tells-answered}
 use borrow.Author.Needs.{needs}
 use Rattle.volume_history.proofs.path_resolve.Statement.{statement}
 use Rattle.volume_history.proofs.path_resolve.Tie as tie

@@ -1,6 +1,6 @@
 -- Too few words are refused first; otherwise the table's equations say what goes out.
 use denote.Ref.{now}
-use Rattle.volume_history.proofs.AnswerLaws.{stores-short, stores-answered}
+use Rattle.volume_history.proofs.CallLaws.{stores-short, stores-answered}
 use borrow.Author.Needs.{needs}
 use Rattle.volume_history.proofs.table_seed.Statement.{statement}
 use Rattle.volume_history.proofs.table_seed.Tie as tie

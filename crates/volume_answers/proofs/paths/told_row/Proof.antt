@@ -1,0 +1,14 @@
+-- The end's numbers stand in the row.
+use Rattle.volume_answers.proofs.AnswerLaws.{told-made}
+use borrow.Author.Needs.{needs}
+use Rattle.volume_answers.proofs.paths.told_row.Statement.{statement}
+use Rattle.volume_answers.proofs.paths.told_row.Tie as tie
+
+end-numbers-requires : tie.Need-end-numbers-requires
+end-numbers-requires c κs = search needs
+
+returns : tie.Need-returns
+returns c = told-made (c .before .args .path) (c .end-numbers .ensures) (c .before .args .text)
+
+pub told-row-spec : {M : Type 1} → statement M
+told-row-spec = tie.close (tie.spec end-numbers-requires returns)

@@ -1,0 +1,81 @@
+// Answers as a number and words.
+ghost use mathlib.Core.Path.{_≡_};
+ghost use Prim.Native.Nat.{_≤_};
+ghost use lib.ListN.{length};
+ghost use Rattle.walk.specs.Lists.{listAfter};
+ghost use Rattle.usn_answers.specs.Answers.{number};
+ghost use Rattle.usn_answers.specs.Journal.{countWords};
+ghost use Rattle.mft_carver.specs.Carve.{statsWords};
+ghost use Rattle.mft_carver.specs.Carve.{outcome as carvingOutcome};
+ghost use Rattle.utf16.specs.Decoding.{outcome as decodingOutcome};
+ghost use Rattle.entry_table.specs.Storing.{outcome as storingOutcome};
+use entry_table::Stored;
+use mft_carver::MftCarving;
+use mft_carver::MftCarvingStats;
+use utf16::Decoded;
+use walk::put_words;
+
+// The words of carving's answer, of decoding's, and of storing's.
+pub const STATS_WORDS: usize = 4;
+
+pub const TEXT_WORDS: usize = 1;
+
+pub const USED_WORDS: usize = 1;
+
+// Carving's answer: 0 with the counters in front of the lent words, or the refusal.
+pub fn put_stats(carving: MftCarving, out: &mut [u64]) -> u32
+    requires { ⌜ 4 ≤ length (now out) ⌝ }
+    ensures { λ r. ⌜ r ≡ number (carvingOutcome carving) ⌝ }
+    ensures { λ _. ⌜ now (out .exit) ≡ listAfter statsWords (carvingOutcome carving) (now (out .entry)) ⌝ }
+{
+    match carving {
+        MftCarving::Carved(stats) => {
+            let row = stats_row(stats);
+            put_words(out, 0, &row);
+            0
+        }
+        MftCarving::Refused(n) => n,
+    }
+}
+
+// The counters, a word each.
+fn stats_row(stats: MftCarvingStats) -> [u64; 4]
+    ensures { λ row. ⌜ row ≡ statsWords stats ⌝ }
+{
+    [
+        stats.bytes_scanned as u64,
+        stats.candidates_examined,
+        stats.entries_carved as u64,
+        stats.rejected,
+    ]
+}
+
+// Decoding's answer: 0 with the text's length as the first of the lent words, or the refusal.
+pub fn put_length(decoded: Decoded, out: &mut [u64]) -> u32
+    requires { ⌜ 1 ≤ length (now out) ⌝ }
+    ensures { λ r. ⌜ r ≡ number (decodingOutcome decoded) ⌝ }
+    ensures { λ _. ⌜ now (out .exit) ≡ listAfter countWords (decodingOutcome decoded) (now (out .entry)) ⌝ }
+{
+    match decoded {
+        Decoded::Text(n) => {
+            out[0] = n as u64;
+            0
+        }
+        Decoded::Refused(n) => n,
+    }
+}
+
+// Storing's answer: 0 with the used slots as the first of the lent words, or the refusal.
+pub fn put_used(stored: Stored, out: &mut [u64]) -> u32
+    requires { ⌜ 1 ≤ length (now out) ⌝ }
+    ensures { λ r. ⌜ r ≡ number (storingOutcome stored) ⌝ }
+    ensures { λ _. ⌜ now (out .exit) ≡ listAfter countWords (storingOutcome stored) (now (out .entry)) ⌝ }
+{
+    match stored {
+        Stored::Used(used) => {
+            out[0] = used as u64;
+            0
+        }
+        Stored::Refused(n) => n,
+    }
+}
