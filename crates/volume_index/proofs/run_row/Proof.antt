@@ -2,8 +2,6 @@
 use borrow.Author.Needs.{needs}
 use Rattle.volume_index.proofs.run_row.Statement.{statement}
 use Rattle.volume_index.proofs.run_row.Tie as tie
-use Rattle.volume_index.proofs.run_row.Reads as reads
-use Rattle.volume_index.proofs.run_row.Lts as lts
 
 cast-t4 : tie.Need-cast-t4
 cast-t4 c = search needs
