@@ -1,7 +1,7 @@
 // Seeding of the lookup table from a lent slice of carved entries, as the image carver's own struct has them.
 //
 // Every function here is proved. The public calls have no `requires`: any table and any entries get an answer. They answer and
-// write what `entry_table::seed` does on the flat list of the same entries.
+// write what `entry_index::seed` does on the flat list of the same entries.
 pub mod turns;
 
 ghost use mathlib.Core.Path.{_≡_};

@@ -4,29 +4,39 @@ use mathlib.Core.Path.{_≡_, refl, ap, sym, _∙_, subst}
 use mathlib.Core.List.{List}
 use mathlib.Core.Bool.{Bool, true, false}
 use native.Mathlib.Omega.{arith}
-use borrow.Author.Tests.{eqb-true, eqb-false}
+use borrow.Author.Tests.{eqb-true, eqb-false, ltb-true, ltb-false}
 use lib.ListN.{length}
-use lib.Dec.{eqb}
+use lib.Dec.{eqb, ltb}
 use Rattle.walk.specs.Outcome.{Outcome, refused, answered}
 use Rattle.entry_table.specs.Slots.{stride, slotsIn, keyAt, putAt}
 use Rattle.entry_table.specs.Table.{Table, table, find}
-use Rattle.entry_table.specs.Storing.{usedAfter, wordsAfter}
+use Rattle.entry_table.specs.Storing.{usedAfter, wordsAfter, outcome}
 use Rattle.entry_table.specs.declared.EntryKey.{EntryKey}
 use Rattle.entry_table.specs.declared.EntryInfo.{EntryInfo}
+use Rattle.entry_table.specs.declared.Stored.{Stored}
 use Rattle.entry_table.specs.declared.slots.Found.the-variants.{At}
 use Rattle.entry_table.proofs.FindLaws.{same-equal, find-at}
 use Rattle.entry_table.proofs.PutLaws.{put-key, put-key-other}
 use Rattle.entry_table.proofs.TableLaws.{find-used}
 use Rattle.entry_index.specs.Index.{hash, headsOf, nextsOf, Indexed, headsAfter, nextsAfter}
+use Rattle.entry_index.specs.Promise.{Stores, StoresBy}
 use Rattle.entry_index.specs.Probing.{LastOf, headsLinked, nextsLinked}
 use Rattle.entry_index.proofs.IndexLaws.{hash-below, Links, links-index, indexed-links, length-linked, no-heads, no-nexts}
 use Rattle.entry_index.proofs.KeepLaws.{links-same, links-more}
 
 -- what a call answers and leaves, where its outcome is known
-pub comes-indexed : {o p : Outcome Table} (s heads nexts : List ℕ) {r : Outcome ℕ} {w h n : List ℕ} → o ≡ p → r ≡ usedAfter p → w ≡ wordsAfter p s
-    → (h ≡ headsAfter p heads) × (n ≡ nextsAfter (length heads) p nexts)
-    → (r ≡ usedAfter o) × ((w ≡ wordsAfter o s) × ((h ≡ headsAfter o heads) × (n ≡ nextsAfter (length heads) o nexts)))
-comes-indexed s heads nexts e x y z = (rw e x, (rw e y, (rw e (z .0), rw e (z .1))))
+pub stores : {o p : Outcome Table} {s : List ℕ} {r : Stored} {w : List ℕ} → o ≡ p → outcome r ≡ usedAfter p → w ≡ wordsAfter p s → Stores o s r w
+stores e x y = record { answer = rw e x; slots-are = rw e y }
+
+pub stores-by : {o p : Outcome Table} {s heads nexts : List ℕ} {r : Stored} {w h n : List ℕ} → o ≡ p → outcome r ≡ usedAfter p → w ≡ wordsAfter p s
+    → (h ≡ headsAfter p heads) × (n ≡ nextsAfter (length heads) p nexts) → StoresBy o s heads nexts r w h n
+stores-by e x y z = record { store = stores e x y; heads-are = rw e (z .0); nexts-are = rw e (z .1) }
+
+-- no words are an index of any table: what the calls without one lend
+pub none-indexed : (s heads nexts : List ℕ) (used : ℕ) → used * stride ≤ length s → length heads ≤ 0
+    → ((used * stride ≤ length s) × (0 < length heads → used ≤ length nexts)) × Indexed (table s used) heads nexts
+none-indexed s heads nexts used fits h =
+    ((fits, λ some. absurd (omega arith)), (no-heads (length heads) (table s used) heads h refl, no-nexts (length heads) (table s used) nexts h))
 
 -- where there is no index, none is left
 pub none-after : (o : Outcome Table) (heads nexts : List ℕ) → length heads ≤ 0 → (heads ≡ headsAfter o heads) × (nexts ≡ nextsAfter (length heads) o nexts)
@@ -66,3 +76,13 @@ module _ (t : Table) (heads nexts : List ℕ) (some : 0 < length heads) (x : Ind
       (ap (hash (length heads)) (put-key (t .words) (t .used) k e (omega arith)))
       links (hash-below (length heads) k some) (omega arith) last d)
       (length-linked nexts last (t .used + 1)))
+
+-- the first of them with an index or with none
+pub kept-over : (t : Table) (heads nexts : List ℕ) → Indexed t heads nexts → (k : EntryKey) (e : EntryInfo) {i : ℕ} → At i ≡ find t k → t .used ≤ slotsIn (t .words)
+    → (heads ≡ headsOf (length heads) (table (putAt (t .words) i k e) (t .used))) × (nexts ≡ nextsOf (length heads) (table (putAt (t .words) i k e) (t .used)) nexts)
+kept-over t heads nexts x k e {i} f fits = go (ltb 0 (length heads)) refl
+  where
+    go : (b : Bool) → ltb 0 (length heads) ≡ b
+        → (heads ≡ headsOf (length heads) (table (putAt (t .words) i k e) (t .used))) × (nexts ≡ nextsOf (length heads) (table (putAt (t .words) i k e) (t .used)) nexts)
+    go true y = index-over t heads nexts (ltb-true 0 (length heads) y) x k e f fits
+    go false y = none-after (answered (table (putAt (t .words) i k e) (t .used))) heads nexts (ltb-false 0 (length heads) y)

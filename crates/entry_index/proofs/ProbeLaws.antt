@@ -168,7 +168,7 @@ pub walking-last : {m : ℕ} {t : Table} {k : EntryKey} {link last : ℕ} → Wa
 unfolding Probed fromLink
 walking-last {m} {t} {k} {link} {last} w h =
     let z : link ≡ 0 = omega arith in
-    (w .rest ∙ ap (fromLink (t .words) (t .used) k) z, record { is = w .behind; none = sym (w .follows) ∙ z })
+    (w .rest ∙ ap (fromLink (t .words) (t .used) k) z, λ _. record { is = w .behind; none = sym (w .follows) ∙ z })
 
 -- what a walk said
 module _ (m : ℕ) (t : Table) (k : EntryKey) {p : Probe} (x : Probed m t k p) where
@@ -180,9 +180,18 @@ module _ (m : ℕ) (t : Table) (k : EntryKey) {p : Probe} (x : Probed m t k p) w
   unfolding Probed
   probed-none e = sym (subst (Probed m t k) e x .0)
 
-  pub probed-last : {l : ℕ} → p ≡ Last l → LastOf m t (hash m k) l
+  pub probed-last : {l : ℕ} → p ≡ Last l → 0 < m → LastOf m t (hash m k) l
   unfolding Probed
-  probed-last e = subst (Probed m t k) e x .1
+  probed-last e some = subst (Probed m t k) e x .1 some
+
+-- and a lookup with no heads
+pub found-hit : (m : ℕ) (t : Table) (k : EntryKey) {f : Found} {i : ℕ} → f ≡ find t k → f ≡ At i → Probed m t k (Hit i)
+unfolding Probed
+found-hit m t k e g = sym e ∙ g
+
+pub found-none : (m : ℕ) (t : Table) (k : EntryKey) {f : Found} → m ≤ 0 → f ≡ find t k → f ≡ Nothing → Probed m t k (Last 0)
+unfolding Probed
+found-none m t k z e g = (sym e ∙ g, λ some. absurd (omega arith))
 
 pub last-within : {m : ℕ} {t : Table} {h : ℕ} (l : ℕ) → LastOf m t h l → l ≤ t .used
 unfolding LinkOf

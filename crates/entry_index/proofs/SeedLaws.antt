@@ -1,7 +1,7 @@
 -- An index that is kept over several changes of the table, and what a call that may have none leaves. Assumes nothing.
 use Prim.Native.Nat.{ℕ, _+_, _-_, _≤_, _<_}
 use mathlib.Core.Path.{_≡_, refl, ap, sym, _∙_}
-use mathlib.Core.List.{List, [], _∷_}
+use mathlib.Core.List.{List, [], _∷_, _++_}
 use mathlib.Core.Bool.{Bool, true, false, cond}
 use native.Mathlib.Omega.{arith}
 use borrow.Author.Tests.{leb-true}
@@ -11,11 +11,14 @@ use Rattle.walk.specs.Outcome.{Outcome, answered}
 use Rattle.walk.proofs.ChoiceLaws.{cond-cases, and-right}
 use Rattle.entry_table.specs.Slots.{slotsIn, rows}
 use Rattle.entry_table.specs.Table.{Table, table, Addition}
-use Rattle.entry_table.specs.Storing.{adding, usedAfter, wordsAfter}
+use Rattle.entry_table.specs.Storing.{adding, outcome}
+use Rattle.entry_table.specs.declared.Stored.{Stored}
 use Rattle.entry_table.proofs.RowLaws.{length-rows}
 use Rattle.entry_table.proofs.AddLaws.{added-table}
 use Rattle.entry_table.proofs.AdditionLaws.{AddingRows, rows-added}
+use Rattle.entry_index.proofs.AddLaws.{none-after}
 use Rattle.entry_index.specs.Index.{headOf, nextOf, headsOf, nextsOf, Indexed, headsAfter, nextsAfter, enough, headsLeft, nextsLeft}
+use Rattle.entry_index.specs.Promise.{StoresBy}
 
 -- an index of m hashes in words that were w, whatever table it was made of
 length-heads : (m : ℕ) (t : Table) → length (headsOf m t) ≡ m
@@ -71,24 +74,25 @@ module _ {t₀ t : Table} {f : ℕ → Addition} {count i : ℕ} {heads₀ nexts
     λ h. omega (arith, room (omega (arith, keeping-heads)), keeping-nexts, w .made .rest .same),
   )
 
-  pub keeping-next : {a : Addition} {o : Outcome ℕ} {n : ℕ} {s h x : List ℕ} → i < count → a ≡ f i
-      → (o ≡ usedAfter (adding t (a ∷ []))) × ((s ≡ wordsAfter (adding t (a ∷ [])) (t .words)) × ((h ≡ headsAfter (adding t (a ∷ [])) heads) × (x ≡ nextsAfter (length heads) (adding t (a ∷ [])) nexts)))
-      → o ≡ answered n → Keeping t₀ (table s n) f count (i + 1) heads₀ nexts₀ h x
-  keeping-next {a} h p (x, (y, (z, v))) q =
-      let both = index-then (length heads₀) t nexts₀ (w .heads-kept) (w .nexts-kept) (added-table t a x y q) z v in
-      record { made = rows-added (w .made) h p x q y; heads-kept = both .0; nexts-kept = both .1 }
+  pub keeping-next : {a : Addition} {r : Stored} {n : ℕ} {s h x : List ℕ} → i < count → a ≡ f i → StoresBy (adding t (a ∷ [])) (t .words) heads nexts r s h x → outcome r ≡ answered n
+      → Keeping t₀ (table s n) f count (i + 1) heads₀ nexts₀ h x
+  keeping-next {a} h p y q =
+      let both = index-then (length heads₀) t nexts₀ (w .heads-kept) (w .nexts-kept) (added-table t a (y .store .answer) (y .store .slots-are) q) (y .heads-are) (y .nexts-are) in
+      record { made = rows-added (w .made) h p (y .store .answer) q (y .store .slots-are); heads-kept = both .0; nexts-kept = both .1 }
 
 -- where lent words are enough, there is a next for each slot
 pub enough-room : (slots : ℕ) (heads nexts : List ℕ) → enough slots heads nexts ≡ true → slots ≤ length nexts
 unfolding enough
 enough-room slots heads nexts e = leb-true _ _ (and-right (ltb 0 (length heads)) (leb slots (length nexts)) e)
 
--- what is left by a call that goes without an index
-pub left-alone : (slots : ℕ) (o : Outcome Table) (heads nexts : List ℕ) → enough slots heads nexts ≡ false → (heads ≡ headsLeft slots o heads nexts) × (nexts ≡ nextsLeft slots o heads nexts)
-left-alone slots o heads nexts e = (rw e, rw e)
+-- what is left by a call that has an index
+pub left-built : (slots : ℕ) (o : Outcome Table) (heads nexts : List ℕ) {h n : List ℕ} → enough slots heads nexts ≡ true → (h ≡ headsAfter o heads) × (n ≡ nextsAfter (length heads) o nexts)
+    → (h ≡ headsLeft slots o heads nexts) × (n ≡ nextsLeft slots o heads nexts)
+left-built slots o heads nexts e x = (rw e (x .0), rw e (x .1))
 
--- and by one that has it, where its outcome is known
-pub comes-left : {o p : Outcome Table} (slots : ℕ) (s heads nexts : List ℕ) {r : Outcome ℕ} {w h n : List ℕ} → enough slots heads nexts ≡ true → o ≡ p → r ≡ usedAfter p → w ≡ wordsAfter p s
-    → (h ≡ headsAfter p heads) × (n ≡ nextsAfter (length heads) p nexts)
-    → (r ≡ usedAfter o) × ((w ≡ wordsAfter o s) × ((h ≡ headsLeft slots o heads nexts) × (n ≡ nextsLeft slots o heads nexts)))
-comes-left slots s heads nexts f e x y z = (rw e x, (rw e y, (rw (f, e) (z .0), rw (f, e) (z .1))))
+-- and by one that goes without, with no heads lent to it
+pub left-plain : (slots : ℕ) (o : Outcome Table) (heads nexts : List ℕ) {h n : List ℕ} → enough slots heads nexts ≡ false → (h ≡ headsAfter o []) × (n ≡ nextsAfter 0 o nexts)
+    → (h ++ heads ≡ headsLeft slots o heads nexts) × (n ≡ nextsLeft slots o heads nexts)
+left-plain slots o heads nexts e x =
+    let none = none-after o [] nexts (omega arith) in
+    (rw e (ap (λ (l : List ℕ). l ++ heads) (x .0 ∙ sym (none .0))), rw e (x .1 ∙ sym (none .1)))

@@ -28,10 +28,10 @@ pub record LastOf (m : ℕ) (t : Table) (h link : ℕ) : Type 0 where
   pub is : LinkOf m t h link
   pub none : following m t h link ≡ 0
 
--- what a walk along the links of a key's hash says: the slot of the key, or that there is none, and the last link
+-- what a walk along the links of a key's hash says: the slot of the key, or that there is none, and the last link where there are heads
 unfoldable pub Probed : ℕ → Table → EntryKey → Probe → Type 0
 Probed m t k (Hit i) = find t k ≡ At i
-Probed m t k (Last l) = (find t k ≡ Nothing) × LastOf m t (hash m k) l
+Probed m t k (Last l) = (find t k ≡ Nothing) × (0 < m → LastOf m t (hash m k) l)
 
 -- heads and nexts with a link put behind the last one of the hash h, or first where there is none
 unfoldable pub headsLinked : List ℕ → ℕ → ℕ → ℕ → List ℕ

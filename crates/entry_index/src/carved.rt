@@ -1,12 +1,12 @@
 // The additions of carved entries by way of an index.
-ghost use mathlib.Core.Path.{_≡_};
 ghost use Prim.Native.Nat.{_+_, _≤_, _<_};
 ghost use lib.ListN.{length};
 ghost use Rattle.entry_table.specs.Slots.{slotsIn};
 ghost use Rattle.entry_table.specs.Table.{table, known};
-ghost use Rattle.entry_table.specs.Storing.{newKeys, keysOf, adding, usedAfter, wordsAfter, outcome};
+ghost use Rattle.entry_table.specs.Storing.{newKeys, keysOf};
 ghost use Rattle.entry_table.specs.Carved.{carvedIn};
-ghost use Rattle.entry_index.specs.Index.{Indexed, headsAfter, nextsAfter};
+ghost use Rattle.entry_index.specs.Index.{Indexed};
+ghost use Rattle.entry_index.specs.Promise.{AddCarvedPromise};
 use crate::links::add;
 use entry_table::Stored;
 use entry_table::carved::ROW;
@@ -24,10 +24,7 @@ pub(crate) fn add_carved(
 ) -> Stored
     requires { ⌜ used + newKeys (known (table (now slots) used)) (keysOf (carvedIn (now entries))) ≤ slotsIn (now slots) ⌝ }
     requires { ⌜ Indexed (table (now slots) used) (now heads) (now nexts) × (0 < length (now heads) → slotsIn (now slots) ≤ length (now nexts)) ⌝ }
-    ensures { λ r. ⌜ outcome r ≡ usedAfter (adding (table (now (slots .entry)) used) (carvedIn (now (entries .entry)))) ⌝ }
-    ensures { λ _. ⌜ now (slots .exit) ≡ wordsAfter (adding (table (now (slots .entry)) used) (carvedIn (now (entries .entry)))) (now (slots .entry)) ⌝ }
-    ensures { λ _. ⌜ now (heads .exit) ≡ headsAfter (adding (table (now (slots .entry)) used) (carvedIn (now (entries .entry)))) (now (heads .entry)) ⌝ }
-    ensures { λ _. ⌜ now (nexts .exit) ≡ nextsAfter (length (now (heads .entry))) (adding (table (now (slots .entry)) used) (carvedIn (now (entries .entry)))) (now (nexts .entry)) ⌝ }
+    ensures { λ r. ⌜ AddCarvedPromise slots used entries heads nexts r ⌝ }
 {
     let count = entries.len() / ROW;
     let mut now_used = used;

@@ -1,34 +1,83 @@
-// A hash index of the lookup table in lent memory: seeding that does not pass over the used slots for each key.
+// The calls that store entries in the lookup table, and a hash index of it in lent memory, by which seeding does not pass over
+// the used slots for each key.
 //
 // The index is two lent slices of words, whatever they hold: the heads, as many as the caller wants hashes, and the nexts, one
 // for each slot. A call builds it after its tests and keeps it with every addition. Where the words are too few, the call does
-// without it, and answers and stores the same.
+// without it, and answers and stores the same. A call with no index is the same code with heads and nexts of length 0.
 //
-// Every function here is proved. The public call has no `requires`. The functions of `links` are helpers of our own crates,
-// and ask for an index that is the table's.
+// Every function here is proved. No public call has a `requires`: any table and any entry get an answer. Of journal and image
+// only the lengths are used, so names decide nothing. The functions of the modules are helpers of our own crates, and ask for room
+// and for an index that is the table's.
 pub mod carved;
 pub mod links;
+pub mod plain;
 
-ghost use mathlib.Core.Path.{_≡_};
-ghost use Rattle.entry_table.specs.Names.{lengthsOf};
+ghost use mathlib.Core.Bool.{true, false};
+ghost use Prim.Native.Nat.{_≤_, _<_};
+ghost use lib.ListN.{length};
+ghost use Rattle.entry_table.specs.Names.{lengths};
 ghost use Rattle.entry_table.specs.Slots.{slotsIn};
-ghost use Rattle.entry_table.specs.Table.{table};
-ghost use Rattle.entry_table.specs.Storing.{usedAfter, wordsAfter, outcome};
-ghost use Rattle.entry_table.specs.Carved.{seeding};
-ghost use Rattle.entry_index.specs.Index.{headsLeft, nextsLeft};
+ghost use Rattle.entry_index.specs.Promise.{StorePromise, InsertPromise, SeedPromise, SeedByPromise, SeedIndexedPromise};
 use crate::carved::add_carved;
 use crate::links::build;
 use crate::links::is_enough;
+use crate::plain::add;
+use entry_table::EntryInfo;
+use entry_table::EntryKey;
 use entry_table::Stored;
 use entry_table::carved::carved_inside;
 use entry_table::carved::has_room;
-use entry_table::seed;
+use entry_table::names::is_inside;
 use entry_table::slots::STRIDE;
 use walk::BAD_STATE;
 use walk::NAME_OUTSIDE;
 use walk::TABLE_FULL;
 
-// What `entry_table::seed` does, by way of an index.
+// Stores an entry under its key. A known one is replaced, in the slot where it stands.
+// Refused, with nothing written: 9 used is above the slots, 7 the name's place passes its slice, 6 the key is new and no slot
+// is left.
+pub fn insert(
+    journal: &[u8],
+    image: &[u8],
+    slots: &mut [u64],
+    used: usize,
+    key: EntryKey,
+    info: EntryInfo,
+) -> Stored
+    ensures { λ r. ⌜ InsertPromise journal image slots used key info true r ⌝ }
+{
+    store(journal.len(), image.len(), slots, used, key, info, true)
+}
+
+// Stores an entry under its key where the key is new. A known one is left alone.
+// Refused as insert is.
+pub fn insert_if_absent(
+    journal: &[u8],
+    image: &[u8],
+    slots: &mut [u64],
+    used: usize,
+    key: EntryKey,
+    info: EntryInfo,
+) -> Stored
+    ensures { λ r. ⌜ InsertPromise journal image slots used key info false r ⌝ }
+{
+    store(journal.len(), image.len(), slots, used, key, info, false)
+}
+
+// Stores the carved entries of an image, in turn, each where its key is new. They come as the image carver lists them, nine
+// words an entry: offset, entry, sequence, name offset, name length, parent entry, parent sequence, directory, in use. Words
+// after the last whole entry are ignored.
+// Refused, with nothing written: 9 used is above the slots, 7 a listed name's place passes the image, also of a known entry,
+// 6 the different new keys are more than the slots that are left.
+pub fn seed(journal: &[u8], image: &[u8], slots: &mut [u64], used: usize, entries: &[u64]) -> Stored
+    ensures { λ r. ⌜ SeedPromise journal image slots used entries r ⌝ }
+{
+    let mut heads: [u64; 0] = [];
+    let mut nexts: [u64; 0] = [];
+    seed_indexed(journal, image, slots, used, entries, &mut heads, &mut nexts)
+}
+
+// What `seed` does, by way of an index.
 pub fn seed_indexed(
     journal: &[u8],
     image: &[u8],
@@ -38,14 +87,27 @@ pub fn seed_indexed(
     heads: &mut [u64],
     nexts: &mut [u64],
 ) -> Stored
-    ensures { λ r. ⌜ outcome r ≡ usedAfter (seeding (lengthsOf (now (journal .entry)) (now (image .entry))) (table (now (slots .entry)) used) (now (entries .entry))) ⌝ }
-    ensures { λ _. ⌜ now (slots .exit) ≡ wordsAfter (seeding (lengthsOf (now (journal .entry)) (now (image .entry))) (table (now (slots .entry)) used) (now (entries .entry))) (now (slots .entry)) ⌝ }
-    ensures { λ _. ⌜ now (heads .exit) ≡ headsLeft (slotsIn (now (slots .entry))) (seeding (lengthsOf (now (journal .entry)) (now (image .entry))) (table (now (slots .entry)) used) (now (entries .entry))) (now (heads .entry)) (now (nexts .entry)) ⌝ }
-    ensures { λ _. ⌜ now (nexts .exit) ≡ nextsLeft (slotsIn (now (slots .entry))) (seeding (lengthsOf (now (journal .entry)) (now (image .entry))) (table (now (slots .entry)) used) (now (entries .entry))) (now (heads .entry)) (now (nexts .entry)) ⌝ }
+    ensures { λ r. ⌜ SeedIndexedPromise journal image slots used entries heads nexts r ⌝ }
 {
-    if !is_enough(slots.len() / STRIDE, heads, nexts) {
-        return seed(journal, image, slots, used, entries);
+    if is_enough(slots.len() / STRIDE, heads, nexts) {
+        return seed_by(journal, image, slots, used, entries, heads, nexts);
     }
+    seed_by(journal, image, slots, used, entries, &mut heads[..0], nexts)
+}
+
+// The same with words that are enough, or with no heads.
+fn seed_by(
+    journal: &[u8],
+    image: &[u8],
+    slots: &mut [u64],
+    used: usize,
+    entries: &[u64],
+    heads: &mut [u64],
+    nexts: &mut [u64],
+) -> Stored
+    requires { ⌜ (0 < length (now heads) → slotsIn (now slots) ≤ length (now nexts)) ⌝ }
+    ensures { λ r. ⌜ SeedByPromise journal image slots used entries heads nexts r ⌝ }
+{
     if slots.len() / STRIDE < used {
         return Stored::Refused(BAD_STATE);
     }
@@ -57,4 +119,26 @@ pub fn seed_indexed(
     }
     build(slots, used, heads, nexts);
     add_carved(slots, used, entries, heads, nexts)
+}
+
+// One entry, with journal and image by their lengths.
+fn store(
+    journal_length: usize,
+    image_length: usize,
+    slots: &mut [u64],
+    used: usize,
+    key: EntryKey,
+    info: EntryInfo,
+    replace: bool,
+) -> Stored
+    ensures { λ r. ⌜ StorePromise (lengths «journal_length» «image_length») slots used key info replace r ⌝ }
+{
+    if slots.len() / STRIDE < used {
+        return Stored::Refused(BAD_STATE);
+    }
+    let name = info.name;
+    if !is_inside(name, journal_length, image_length) {
+        return Stored::Refused(NAME_OUTSIDE);
+    }
+    add(slots, used, key, info, replace)
 }

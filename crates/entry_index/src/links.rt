@@ -2,14 +2,13 @@
 //
 // Heads of length 0 are no index: a key is then found by passing over the used slots.
 ghost use mathlib.Core.Path.{_≡_};
-ghost use mathlib.Core.List.{[], _∷_};
 ghost use Prim.Native.Nat.{_+_, _*_, _≤_, _<_};
 ghost use lib.ListN.{length, replicate};
 ghost use Rattle.entry_table.specs.Slots.{stride, slotsIn};
-ghost use Rattle.entry_table.specs.Table.{table, find, addition};
-ghost use Rattle.entry_table.specs.Storing.{adding, usedAfter, wordsAfter, outcome};
-ghost use Rattle.entry_index.specs.Index.{hash, headsOf, nextsOf, Indexed, headsAfter, nextsAfter, enough};
+ghost use Rattle.entry_table.specs.Table.{table, find, slotFor};
+ghost use Rattle.entry_index.specs.Index.{hash, headsOf, nextsOf, Indexed, enough};
 ghost use Rattle.entry_index.specs.Probing.{Probed, headsLinked, nextsLinked};
+ghost use Rattle.entry_index.specs.Promise.{AddByPromise};
 use entry_table::EntryInfo;
 use entry_table::EntryKey;
 use entry_table::Stored;
@@ -64,18 +63,42 @@ fn probe_key(slots: &[u64], used: usize, heads: &[u64], nexts: &[u64], key: Entr
     Probe::Last(last)
 }
 
+// Where a key stands by the links of its hash, or with no heads by passing over the used slots.
+fn seek(slots: &[u64], used: usize, heads: &[u64], nexts: &[u64], key: EntryKey) -> Probe
+    requires { ⌜ (used * stride ≤ length (now slots)) × (0 < length (now heads) → used ≤ length (now nexts)) ⌝ }
+    requires { ⌜ Indexed (table (now slots) used) (now heads) (now nexts) ⌝ }
+    ensures { λ r. ⌜ Probed (length (now (heads .entry))) (table (now (slots .entry)) used) key r ⌝ }
+{
+    if 0 < heads.len() {
+        return probe_key(slots, used, heads, nexts, key);
+    }
+    match entry_table::slots::find(slots, used, key) {
+        Found::At(i) => Probe::Hit(i),
+        Found::Nothing => Probe::Last(0),
+    }
+}
+
 // The slot of a key: the lowest used one that has it.
 pub fn find(slots: &[u64], used: usize, heads: &[u64], nexts: &[u64], key: EntryKey) -> Found
     requires { ⌜ (used * stride ≤ length (now slots)) × (0 < length (now heads) → used ≤ length (now nexts)) ⌝ }
     requires { ⌜ Indexed (table (now slots) used) (now heads) (now nexts) ⌝ }
     ensures { λ r. ⌜ r ≡ find (table (now (slots .entry)) used) key ⌝ }
 {
-    if heads.len() == 0 {
-        return entry_table::slots::find(slots, used, key);
-    }
-    match probe_key(slots, used, heads, nexts, key) {
+    match seek(slots, used, heads, nexts, key) {
         Probe::Hit(i) => Found::At(i),
         Probe::Last(_) => Found::Nothing,
+    }
+}
+
+// The slot that an entry under a key goes to: that of the key, or the first that is not used.
+pub fn slot_for(slots: &[u64], used: usize, heads: &[u64], nexts: &[u64], key: EntryKey) -> usize
+    requires { ⌜ (used * stride ≤ length (now slots)) × (0 < length (now heads) → used ≤ length (now nexts)) ⌝ }
+    requires { ⌜ Indexed (table (now slots) used) (now heads) (now nexts) ⌝ }
+    ensures { λ r. ⌜ r ≡ slotFor (table (now (slots .entry)) used) key ⌝ }
+{
+    match find(slots, used, heads, nexts, key) {
+        Found::At(i) => i,
+        Found::Nothing => used,
     }
 }
 
@@ -125,7 +148,8 @@ fn link(used: usize, heads: &mut [u64], nexts: &mut [u64], key: EntryKey, last: 
     nexts[(last - 1) as usize] = next;
 }
 
-// What `entry_table::slots::add` does, by way of the index, which it keeps.
+// Stores an entry under its key by way of the index, which it keeps. A known one is replaced, or left alone where replace is false;
+// a new one takes the first slot that is not used. Refused, with nothing written: 6 the key is new and no slot is left.
 pub fn add(
     slots: &mut [u64],
     used: usize,
@@ -137,15 +161,9 @@ pub fn add(
 ) -> Stored
     requires { ⌜ used ≤ slotsIn (now slots) ⌝ }
     requires { ⌜ Indexed (table (now slots) used) (now heads) (now nexts) × (0 < length (now heads) → slotsIn (now slots) ≤ length (now nexts)) ⌝ }
-    ensures { λ r. ⌜ outcome r ≡ usedAfter (adding (table (now (slots .entry)) used) (addition key info replace ∷ [])) ⌝ }
-    ensures { λ _. ⌜ now (slots .exit) ≡ wordsAfter (adding (table (now (slots .entry)) used) (addition key info replace ∷ [])) (now (slots .entry)) ⌝ }
-    ensures { λ _. ⌜ now (heads .exit) ≡ headsAfter (adding (table (now (slots .entry)) used) (addition key info replace ∷ [])) (now (heads .entry)) ⌝ }
-    ensures { λ _. ⌜ now (nexts .exit) ≡ nextsAfter (length (now (heads .entry))) (adding (table (now (slots .entry)) used) (addition key info replace ∷ [])) (now (nexts .entry)) ⌝ }
+    ensures { λ r. ⌜ AddByPromise slots used heads nexts key info replace r ⌝ }
 {
-    if heads.len() == 0 {
-        return entry_table::slots::add(slots, used, key, info, replace);
-    }
-    match probe_key(slots, used, heads, nexts, key) {
+    match seek(slots, used, heads, nexts, key) {
         Probe::Hit(i) => {
             if replace {
                 put(slots, i, key, info);
@@ -157,6 +175,9 @@ pub fn add(
                 return Stored::Refused(TABLE_FULL);
             }
             put(slots, used, key, info);
+            if heads.len() == 0 {
+                return Stored::Used(used + 1);
+            }
             link(used, heads, nexts, key, last);
             Stored::Used(used + 1)
         }

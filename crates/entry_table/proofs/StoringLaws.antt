@@ -12,14 +12,9 @@ use Rattle.walk.specs.Refusals.{badState, nameOutside, tableFull}
 use Rattle.entry_table.specs.Names.{Lengths, allInside}
 use Rattle.entry_table.specs.Slots.{slotsIn, putAt}
 use Rattle.entry_table.specs.Table.{Table, table, find, known, Addition, addFound, add, addAll}
-use Rattle.entry_table.specs.Storing.{newKeys, keysOf, namesOf, adding, storing, usedAfter, wordsAfter}
+use Rattle.entry_table.specs.Storing.{newKeys, keysOf, namesOf, adding, storing}
 use Rattle.entry_table.specs.declared.slots.Found.{Found}
 use Rattle.entry_table.specs.declared.slots.Found.the-variants.{At, Nothing}
-
--- what a call answers and leaves, where its outcome is known
-pub comes-out : {o p : Outcome Table} (s : List ℕ) {r : Outcome ℕ} {w : List ℕ} → o ≡ p → r ≡ usedAfter p → w ≡ wordsAfter p s
-    → (r ≡ usedAfter o) × (w ≡ wordsAfter o s)
-comes-out s e x y = (rw e x, rw e y)
 
 -- one addition: it wants a slot where its key is new
 pub adding-one : (t : Table) (a : Addition)

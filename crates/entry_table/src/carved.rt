@@ -1,4 +1,4 @@
-// Seeding from the image carver's flat list: the entries in it, the count of new keys, and their additions.
+// Seeding from the image carver's flat list: the entries in it, and the count of new keys.
 ghost use mathlib.Core.Path.{_≡_};
 ghost use Prim.Native.Nat.{_+_, _-_, _*_, _≤_};
 ghost use lib.ListN.{length};
@@ -6,17 +6,15 @@ ghost use lib.Dec.{leb};
 ghost use Rattle.entry_table.specs.Names.{lengths, allInside};
 ghost use Rattle.entry_table.specs.Slots.{stride, slotsIn};
 ghost use Rattle.entry_table.specs.Table.{table, known};
-ghost use Rattle.entry_table.specs.Storing.{newKeys, seen, keysOf, namesOf, adding, usedAfter, wordsAfter, outcome};
+ghost use Rattle.entry_table.specs.Storing.{newKeys, seen, keysOf, namesOf};
 ghost use Rattle.entry_table.specs.Carved.{row, carvedKey, carvedName, carvedInfo, carvedIn};
 use crate::EntryInfo;
 use crate::EntryKey;
 use crate::NamePlace;
-use crate::Stored;
 use crate::names::IMAGE;
 use crate::names::is_inside;
 use crate::slots::Found;
 use crate::slots::STRIDE;
-use crate::slots::add;
 use crate::slots::find;
 use crate::slots::key_in;
 use crate::slots::same_key;
@@ -115,26 +113,4 @@ pub fn has_room(slots: &[u64], used: usize, entries: &[u64]) -> bool
         return true;
     }
     new_keys(slots, used, entries) <= left
-}
-
-// Every carved entry, in turn, where its key is new. The caller has seen to it that there is room, so that no addition is
-// refused.
-pub(crate) fn add_carved(slots: &mut [u64], used: usize, entries: &[u64]) -> Stored
-    requires { ⌜ used + newKeys (known (table (now slots) used)) (keysOf (carvedIn (now entries))) ≤ slotsIn (now slots) ⌝ }
-    ensures { λ r. ⌜ outcome r ≡ usedAfter (adding (table (now (slots .entry)) used) (carvedIn (now (entries .entry)))) ⌝ }
-    ensures { λ _. ⌜ now (slots .exit) ≡ wordsAfter (adding (table (now (slots .entry)) used) (carvedIn (now (entries .entry)))) (now (slots .entry)) ⌝ }
-{
-    let count = entries.len() / ROW;
-    let mut now_used = used;
-    let mut i: usize = 0;
-    while i < count {
-        let key = carved_key(entries, i);
-        let info = carved_info(entries, i);
-        match add(slots, now_used, key, info, false) {
-            Stored::Used(n) => now_used = n,
-            Stored::Refused(n) => return Stored::Refused(n),
-        }
-        i += 1;
-    }
-    Stored::Used(now_used)
 }

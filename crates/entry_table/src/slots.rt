@@ -1,16 +1,12 @@
-// The slots of a table: what stands in one, the slot of a key, and the store of an entry.
+// The slots of a table: what stands in one, the slot of a key, and an entry put into one.
 ghost use mathlib.Core.Path.{_≡_};
-ghost use mathlib.Core.List.{[], _∷_};
 ghost use Prim.Native.Nat.{_+_, _*_, _≤_};
 ghost use lib.ListN.{length};
-ghost use Rattle.entry_table.specs.Slots.{stride, slotsIn, sameKey, keyIn, keyAt, nameAt, infoAt, putAt};
-ghost use Rattle.entry_table.specs.Table.{table, find, slotFor, addition};
-ghost use Rattle.entry_table.specs.Storing.{adding, usedAfter, wordsAfter, outcome};
+ghost use Rattle.entry_table.specs.Slots.{stride, sameKey, keyIn, keyAt, nameAt, infoAt, putAt};
+ghost use Rattle.entry_table.specs.Table.{table, find};
 use crate::EntryInfo;
 use crate::EntryKey;
 use crate::NamePlace;
-use crate::Stored;
-use walk::TABLE_FULL;
 use walk::put_words;
 
 // The words of a slot.
@@ -74,7 +70,7 @@ pub fn info_at(slots: &[u64], i: usize) -> EntryInfo
     EntryInfo { parent, name }
 }
 
-// The slot of a key: the lowest used one that has it.
+// The slot of a key: the lowest used one that has it, by passing over the used slots.
 pub fn find(slots: &[u64], used: usize, key: EntryKey) -> Found
     requires { ⌜ used * stride ≤ length (now slots) ⌝ }
     ensures { λ r. ⌜ r ≡ find (table (now (slots .entry)) used) key ⌝ }
@@ -87,17 +83,6 @@ pub fn find(slots: &[u64], used: usize, key: EntryKey) -> Found
         i += 1;
     }
     Found::Nothing
-}
-
-// The slot that an entry under a key goes to: that of the key, or the first that is not used.
-pub fn slot_for(slots: &[u64], used: usize, key: EntryKey) -> usize
-    requires { ⌜ used * stride ≤ length (now slots) ⌝ }
-    ensures { λ r. ⌜ r ≡ slotFor (table (now (slots .entry)) used) key ⌝ }
-{
-    match find(slots, used, key) {
-        Found::At(i) => i,
-        Found::Nothing => used,
-    }
 }
 
 // An entry into slot i.
@@ -117,28 +102,4 @@ pub fn put(slots: &mut [u64], i: usize, key: EntryKey, info: EntryInfo)
         name.length,
     ];
     put_words(slots, i * STRIDE, &words);
-}
-
-// Stores an entry under its key. A known one is replaced, or left alone where replace is false; a new one takes the first slot
-// that is not used. Refused, with nothing written: 6 the key is new and no slot is left.
-pub fn add(slots: &mut [u64], used: usize, key: EntryKey, info: EntryInfo, replace: bool) -> Stored
-    requires { ⌜ used ≤ slotsIn (now slots) ⌝ }
-    ensures { λ r. ⌜ outcome r ≡ usedAfter (adding (table (now (slots .entry)) used) (addition key info replace ∷ [])) ⌝ }
-    ensures { λ _. ⌜ now (slots .exit) ≡ wordsAfter (adding (table (now (slots .entry)) used) (addition key info replace ∷ [])) (now (slots .entry)) ⌝ }
-{
-    match find(slots, used, key) {
-        Found::At(i) => {
-            if replace {
-                put(slots, i, key, info);
-            }
-            Stored::Used(used)
-        }
-        Found::Nothing => {
-            if used < slots.len() / STRIDE {
-                put(slots, used, key, info);
-                return Stored::Used(used + 1);
-            }
-            Stored::Refused(TABLE_FULL)
-        }
-    }
 }

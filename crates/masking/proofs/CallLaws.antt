@@ -14,7 +14,8 @@ use Rattle.entry_table.specs.Slots.{slotsIn}
 use Rattle.entry_table.specs.Table.{Table, Addition}
 use Rattle.entry_table.specs.Storing.{namesOf, storing}
 use Rattle.rewind.specs.Starting.{Tables}
-use Rattle.rewind.specs.Stepping.{Next, Step}
+use Rattle.rewind_records.specs.Turning.{Next}
+use Rattle.rewind_steps.specs.Taking.{Step}
 use Rattle.rewind.proofs.TextLaws.{NotFull, not-full-of, adding-not-full, starting-not-full, stepping-not-full}
 use Rattle.masking.specs.Calls.{Sources, State, Which, first, forward, Plain, insert, insertIfAbsent, seed, start, Call, plain, nextText, Answer, stored, startResult, nextResult, plainResult, resultOf, isStruck}
 use Rattle.masking.specs.Calls as calls

@@ -55,12 +55,12 @@ use Rattle.chain.specs.Tracing.{inDomain}
 use Rattle.chain.specs.Tracing.{listed as listedChain}
 use Rattle.path.specs.Text.{endText, placeText, stepText, pathText}
 use Rattle.path.specs.Telling.{placing, decoding}
-use Rattle.rewind.specs.Entries.{hasReason, entryFrom}
+use Rattle.rewind_records.specs.Entries.{hasReason, entryFrom}
 use Rattle.walk.specs.Lists.{every}
-use Rattle.rewind.specs.Environment.{refusalOf as rewindRefusal}
+use Rattle.rewind_records.specs.Environment.{refusalOf as rewindRefusal}
 use Rattle.rewind.specs.Starting.{starting}
-use Rattle.rewind.specs.Stepping.{turning}
-use Rattle.rewind.specs.Telling.{recordText}
+use Rattle.rewind_records.specs.Turning.{turning}
+use Rattle.rewind_steps.specs.Telling.{recordText}
 use Rattle.masking.specs.Calls.{sources, State, plain, nextText, start, Result, startResult, nextResult, Done, results, struck, plainsOf, resultsOf}
 use Rattle.masking.specs.Calls as call
 use Rattle.masking.specs.Demand.{imageNames, journalNames, scanPlaces, SharedRecords, ScanShares, carverPlaces, CarverShares, windowPlaces, WindowShares}

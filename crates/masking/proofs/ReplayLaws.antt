@@ -14,10 +14,12 @@ use Rattle.entry_table.specs.Carved.{seeding}
 use Rattle.chain.specs.Settings.{depth}
 use Rattle.path.specs.Alike.{Beside}
 use Rattle.path.proofs.TwoRuns.{with-text}
-use Rattle.rewind.specs.Environment.{Environment, environmentOf}
+use Rattle.rewind_records.specs.Environment.{Environment, environmentOf}
 use Rattle.rewind.specs.Starting.{starting}
-use Rattle.rewind.specs.Stepping.{Next, Step, forwardTable, stepping, stepped}
-use Rattle.rewind.specs.Telling.{nextText as textOf}
+use Rattle.rewind_records.specs.Turning.{Next}
+use Rattle.rewind_steps.specs.Taking.{Step}
+use Rattle.rewind.specs.Stepping.{forwardTable, stepping, stepped}
+use Rattle.rewind_steps.specs.Telling.{nextText as textOf}
 use Rattle.masking.specs.Calls.{Sources, State, tableOf, Plain, insert, insertIfAbsent, seed, start, next, Call, plain, nextText, Result, stored, startResult, nextResult, plainResult, rewindOf, Done, results, struck, plainsOf, resultsOf}
 
 -- calls without text, one after the other

@@ -15,9 +15,10 @@ use Rattle.entry_table.specs.Storing.{wordsAfter as storedWords}
 use Rattle.entry_table.specs.Carved.{seeding}
 use Rattle.entry_table.specs.declared.EntryKey.{EntryKey}
 use Rattle.entry_table.specs.declared.EntryInfo.{EntryInfo}
-use Rattle.rewind.specs.Starting.{Tables, started, firstAfter, forwardAfter}
-use Rattle.rewind.specs.Starting.{begun as rewindBegun}
-use Rattle.rewind.specs.Stepping.{Next, Step, stepped, rewindAfter, wordsAfter, chainAfter}
+use Rattle.rewind.specs.Starting.{Tables, started, firstAfter, forwardAfter, begun as rewindBegun}
+use Rattle.rewind_records.specs.Turning.{Next}
+use Rattle.rewind_steps.specs.Taking.{Step}
+use Rattle.rewind.specs.Stepping.{stepped, rewindAfter, wordsAfter, chainAfter}
 use Rattle.rewind.specs.Telling.{told}
 use Rattle.rewind.specs.declared.Rewind.{Rewind}
 

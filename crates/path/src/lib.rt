@@ -7,16 +7,7 @@
 // lengths decide all but the text and whether it fits.
 pub mod text;
 
-ghost use mathlib.Core.Path.{_≡_};
-ghost use lib.ListN.{length};
-ghost use Rattle.walk.specs.Outcome.{mapOutcome};
-ghost use Rattle.walk.specs.Lists.{listAfter};
-ghost use Rattle.utf16.specs.Decoding;
-ghost use Rattle.entry_table.specs.Table.{table};
-ghost use Rattle.chain.specs.Settings.{depth};
-ghost use Rattle.chain.specs.Tracing.{chainAfter};
-ghost use Rattle.path.specs.Text.{placeText, placeLength, pathText};
-ghost use Rattle.path.specs.Telling.{telling, told, place, decoding, outcome};
+ghost use Rattle.path.specs.Promise.{PathPromise, DecodePromise};
 use crate::text::path_length;
 use crate::text::place_length;
 use crate::text::put_path;
@@ -53,9 +44,7 @@ pub fn path(
     list: &mut [u64],
     text: &mut [u8],
 ) -> PathAnswer
-    ensures { λ r. ⌜ outcome r ≡ mapOutcome (told (now (journal .entry)) (now (image .entry))) (telling (now (journal .entry)) (now (image .entry)) (table (now (slots .entry)) used) depth key (length (now (text .entry)))) ⌝ }
-    ensures { λ _. ⌜ now (list .exit) ≡ chainAfter (telling (now (journal .entry)) (now (image .entry)) (table (now (slots .entry)) used) depth key (length (now (text .entry)))) (now (list .entry)) ⌝ }
-    ensures { λ _. ⌜ now (text .exit) ≡ listAfter (pathText (now (journal .entry)) (now (image .entry))) (telling (now (journal .entry)) (now (image .entry)) (table (now (slots .entry)) used) depth key (length (now (text .entry)))) (now (text .entry)) ⌝ }
+    ensures { λ r. ⌜ PathPromise journal image slots used key list text r ⌝ }
 {
     match trace(journal.len(), image.len(), slots, used, key, DEPTH) {
         ChainAnswer::Refused(n) => PathAnswer::Refused(n),
@@ -83,8 +72,7 @@ pub fn decode(
     size: u64,
     text: &mut [u8],
 ) -> Decoded
-    ensures { λ r. ⌜ Rattle.utf16.specs.Decoding.outcome r ≡ mapOutcome (placeLength (now (journal .entry)) (now (image .entry))) (decoding (now (journal .entry)) (now (image .entry)) (place source offset size) (length (now (text .entry)))) ⌝ }
-    ensures { λ _. ⌜ now (text .exit) ≡ listAfter (placeText (now (journal .entry)) (now (image .entry))) (decoding (now (journal .entry)) (now (image .entry)) (place source offset size) (length (now (text .entry)))) (now (text .entry)) ⌝ }
+    ensures { λ r. ⌜ DecodePromise journal image source offset size text r ⌝ }
 {
     if DOMAIN < journal.len() {
         return Decoded::Refused(ABOVE_DOMAIN);

@@ -8,12 +8,13 @@ ghost use Rattle.walk.specs.Refusals.{domain};
 ghost use Rattle.entry_table.specs.Names.{lengthsOf, inside, allInside};
 ghost use Rattle.entry_table.specs.Slots.{stride, namesIn};
 ghost use Rattle.entry_table.specs.Table.{table};
+ghost use Rattle.entry_index.specs.Index.{Indexed};
 ghost use Rattle.chain.specs.Settings.{deepest};
 ghost use Rattle.chain.specs.Chain.{chain};
-ghost use Rattle.path.specs.Text.{keyText, endText, placeText, stepText, namesText, pathText};
+ghost use Rattle.path.specs.Text.{keyText, endText, placeText, stepText, namesText, pathText, measured};
 use chain::ChainEnd;
 use chain::steps::Way;
-use chain::steps::step;
+use chain::steps::step_by;
 use entry_table::EntryKey;
 use entry_table::NamePlace;
 use entry_table::names::JOURNAL;
@@ -24,6 +25,12 @@ use utf16::name::name_length;
 use utf16::name::put_name;
 use utf16::plain::put_byte;
 use utf16::plain::put_bytes;
+
+// The end of a chain, and how many bytes its names take, each with its backslash.
+pub struct Measured {
+    pub end: ChainEnd,
+    pub names: usize,
+}
 
 // How many bytes a key takes in a marker: few enough for any sum.
 fn key_length(key: EntryKey) -> usize
@@ -119,57 +126,86 @@ pub fn put_step(journal: &[u8], image: &[u8], place: NamePlace, text: &mut [u8],
     put_place(journal, image, place, text, to)
 }
 
-// How many bytes the names of a key's chain take, each with its backslash.
-pub(crate) fn names_length(
+// The end of a key's chain, and how many bytes its names take.
+pub fn measure(
     journal: &[u8],
     image: &[u8],
     slots: &[u64],
     used: usize,
+    heads: &[u64],
+    nexts: &[u64],
     key: EntryKey,
     levels: usize,
-) -> usize
-    requires { ⌜ used * stride ≤ length (now slots) ⌝ }
+) -> Measured
+    requires { ⌜ (used * stride ≤ length (now slots)) × (0 < length (now heads) → used ≤ length (now nexts)) ⌝ }
+    requires { ⌜ Indexed (table (now slots) used) (now heads) (now nexts) ⌝ }
     requires { ⌜ allInside (lengthsOf (now journal) (now image)) (namesIn (now slots) used) ≡ true ⌝ }
     requires { ⌜ (length (now journal) ≤ domain) × (length (now image) ≤ domain) × (levels ≤ deepest + 1) ⌝ }
-    ensures { λ r. ⌜ r ≡ length (namesText (now (journal .entry)) (now (image .entry)) (chain (table (now (slots .entry)) used) levels key .places)) ⌝ }
+    ensures { λ r. ⌜ r ≡ measured (now (journal .entry)) (now (image .entry)) (chain (table (now (slots .entry)) used) levels key) ⌝ }
 {
-    match step(slots, used, key, levels) {
-        Way::End(_) => 0,
+    match step_by(slots, used, heads, nexts, key, levels) {
+        Way::End(end) => Measured { end, names: 0 },
         Way::Slot(i) => {
             let info = info_at(slots, i);
             let parent = info.parent;
             let name = info.name;
-            names_length(journal, image, slots, used, parent, levels - 1)
-                + 1
-                + place_length(journal, image, name)
+            let above = measure(
+                journal,
+                image,
+                slots,
+                used,
+                heads,
+                nexts,
+                parent,
+                levels - 1,
+            );
+            let end = above.end;
+            Measured {
+                end,
+                names: above.names + 1 + place_length(journal, image, name),
+            }
         }
     }
 }
 
 // The names of a key's chain, each after a backslash, from the top down.
-pub(crate) fn put_names(
+pub fn put_names(
     journal: &[u8],
     image: &[u8],
     slots: &[u64],
     used: usize,
+    heads: &[u64],
+    nexts: &[u64],
     key: EntryKey,
     levels: usize,
     text: &mut [u8],
     at: usize,
 ) -> usize
-    requires { ⌜ used * stride ≤ length (now slots) ⌝ }
+    requires { ⌜ (used * stride ≤ length (now slots)) × (0 < length (now heads) → used ≤ length (now nexts)) ⌝ }
+    requires { ⌜ Indexed (table (now slots) used) (now heads) (now nexts) ⌝ }
     requires { ⌜ allInside (lengthsOf (now journal) (now image)) (namesIn (now slots) used) ≡ true ⌝ }
     requires { ⌜ at + length (namesText (now journal) (now image) (chain (table (now slots) used) levels key .places)) ≤ length (now text) ⌝ }
     ensures { λ r. ⌜ r ≡ at + length (namesText (now (journal .entry)) (now (image .entry)) (chain (table (now (slots .entry)) used) levels key .places)) ⌝ }
     ensures { λ _. ⌜ now (text .exit) ≡ sets (now (text .entry)) at (namesText (now (journal .entry)) (now (image .entry)) (chain (table (now (slots .entry)) used) levels key .places)) ⌝ }
 {
-    match step(slots, used, key, levels) {
+    match step_by(slots, used, heads, nexts, key, levels) {
         Way::End(_) => at,
         Way::Slot(i) => {
             let info = info_at(slots, i);
             let parent = info.parent;
             let name = info.name;
-            let to = put_names(journal, image, slots, used, parent, levels - 1, text, at);
+            let to = put_names(
+                journal,
+                image,
+                slots,
+                used,
+                heads,
+                nexts,
+                parent,
+                levels - 1,
+                text,
+                at,
+            );
             put_step(journal, image, name, text, to)
         }
     }
@@ -200,7 +236,17 @@ pub fn path_length(
     requires { ⌜ end ≡ chain (table (now slots) used) levels key .end ⌝ }
     ensures { λ r. ⌜ (r ≡ length (pathText (now (journal .entry)) (now (image .entry)) (chain (table (now (slots .entry)) used) levels key))) × (r < 2 ^ 63) ⌝ }
 {
-    end_length(end) + names_length(journal, image, slots, used, key, levels)
+    end_length(end)
+        + measure(
+            journal,
+            image,
+            slots,
+            used,
+            &slots[..0],
+            &slots[..0],
+            key,
+            levels,
+        ).names
 }
 
 // A key's path, of which the end is known, at the front of a text, which has room for it.
@@ -222,5 +268,16 @@ pub fn put_path(
     ensures { λ _. ⌜ now (text .exit) ≡ sets (now (text .entry)) 0 (pathText (now (journal .entry)) (now (image .entry)) (chain (table (now (slots .entry)) used) levels key)) ⌝ }
 {
     let to = put_end(text, 0, end);
-    put_names(journal, image, slots, used, key, levels, text, to)
+    put_names(
+        journal,
+        image,
+        slots,
+        used,
+        &slots[..0],
+        &slots[..0],
+        key,
+        levels,
+        text,
+        to,
+    )
 }

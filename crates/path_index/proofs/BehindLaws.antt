@@ -12,13 +12,13 @@ use Rattle.entry_table.specs.declared.NamePlace.{NamePlace}
 use Rattle.chain.specs.declared.ChainEnd.{ChainEnd}
 use Rattle.chain.specs.Settings.{depth}
 use Rattle.chain.specs.Chain.{chainOf}
-use Rattle.path.specs.Text.{endText, namesText, pathText, stepText}
+use Rattle.path.specs.Text.{endText, namesText, pathText, stepText, measured}
 use Rattle.path.proofs.NameLaws.{Sources}
 use Rattle.path.proofs.MarkerLaws.{first-room, second-room, both-put}
-use Rattle.path_index.specs.Behind.{stepBound, pathBound, measured, entryText, behind, textBehind}
+use Rattle.path_index.specs.Behind.{stepBound, pathBound, entryText, behind, textBehind}
 use Rattle.path_index.specs.declared.Behind.{Behind}
 use Rattle.path_index.specs.declared.Behind.the-variants.{Full, To}
-use Rattle.path_index.specs.declared.ways.Measured.{Measured}
+use Rattle.path.specs.declared.text.Measured.{Measured}
 use Rattle.path_index.proofs.BoundLaws.{step-bound}
 use Rattle.path_index.proofs.WayLaws.{Guarded, was-full, was-put, next-room, path-bound}
 

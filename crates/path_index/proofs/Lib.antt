@@ -1,4 +1,3 @@
 pub mod BoundLaws
-pub mod MeasureLaws
 pub mod WayLaws
 pub mod BehindLaws

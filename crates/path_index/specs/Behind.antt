@@ -13,7 +13,6 @@ use Rattle.chain.specs.Chain.{Chain, chainOf}
 use Rattle.path.specs.Text.{endText, namesText, pathText, stepText}
 use Rattle.path_index.specs.declared.Behind.{Behind}
 use Rattle.path_index.specs.declared.Behind.the-variants.{Full, To}
-use Rattle.path_index.specs.declared.ways.Measured.{Measured}
 
 -- the most bytes that a backslash and a name can take, three for each unit, and those of all names
 abbrev pub stepBound : NamePlace → ℕ
@@ -26,10 +25,6 @@ namesBound (p ∷ ps) = stepBound p + namesBound ps
 -- the most bytes that the path of a chain can take: its end, and the names
 unfoldable pub pathBound : Chain → ℕ
 pathBound c = length (endText (c .end)) + namesBound (c .places)
-
--- the end of a chain, and how many bytes its names take
-abbrev pub measured : List ℕ → List ℕ → Chain → Measured
-measured journal image c = record { end = c .end; names = length (namesText journal image (c .places)) }
 
 -- the path of the parent, a backslash and the name
 unfoldable pub entryText : List ℕ → List ℕ → Table → EntryKey → NamePlace → List ℕ

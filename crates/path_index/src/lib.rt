@@ -17,16 +17,16 @@ ghost use Rattle.entry_index.specs.Index.{Indexed};
 ghost use Rattle.chain.specs.Settings.{depth};
 ghost use Rattle.chain.specs.Chain.{chainOf};
 ghost use Rattle.path_index.specs.Behind.{entryText, behind, textBehind};
-use crate::ways::measure;
 use crate::ways::most_of;
-use crate::ways::put_names;
 use crate::ways::put_way;
 use chain::ChainEnd;
 use chain::DEPTH;
 use entry_table::EntryKey;
 use entry_table::NamePlace;
 use path::text::end_length;
+use path::text::measure;
 use path::text::put_end;
+use path::text::put_names;
 use path::text::put_step;
 use path::text::step_length;
 

@@ -123,11 +123,11 @@ fn call(
 ) -> usize {
     match kind {
         3 => stored(
-            entry_table::insert(journal, image, slots, used, key_in(words), info_in(words)),
+            entry_index::insert(journal, image, slots, used, key_in(words), info_in(words)),
             used,
         ),
         4 => stored(
-            entry_table::insert_if_absent(
+            entry_index::insert_if_absent(
                 journal,
                 image,
                 slots,
@@ -206,7 +206,7 @@ fn seed_first(
         return used;
     }
     stored(
-        entry_table::seed(journal, image, slots, used, &list[..n]),
+        entry_index::seed(journal, image, slots, used, &list[..n]),
         used,
     )
 }

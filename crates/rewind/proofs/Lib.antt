@@ -1,7 +1,4 @@
-pub mod EntryLaws
-pub mod RecordLaws
-pub mod TurnLaws
 pub mod StartLaws
-pub mod TellLaws
+pub mod BeginLaws
 pub mod StepLaws
 pub mod TextLaws

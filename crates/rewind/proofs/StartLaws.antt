@@ -1,47 +1,42 @@
 -- The start of a rewind by its ways out: the answer, and what the words of both tables then hold. Assumes nothing.
-use Prim.Native.Nat.{ℕ, _+_, _-_, _*_, _≤_, _<_}
-use mathlib.Core.Path.{_≡_, refl, ap, sym, _∙_}
+use Prim.Native.Nat.{ℕ, _+_, _-_, _*_, _≤_}
+use mathlib.Core.Path.{_≡_, ap, sym, _∙_}
 use mathlib.Core.List.{List}
 use mathlib.Core.Bool.{Bool, true, false, or-true}
 use native.Mathlib.Omega.{arith}
-use borrow.Author.Tests.{leb-true, leb-false, le-ltb, lt-ltb, lt-leb}
+use borrow.Author.Tests.{leb-true, leb-false, le-ltb, lt-ltb}
 use lib.ListN.{length, take, drop, length-take}
 use lib.Seq.{sets}
 use lib.Dec.{leb, ltb}
-use Rattle.walk.specs.Outcome.{Outcome, refused, answered, mapOutcome}
+use Rattle.walk.specs.Outcome.{Outcome, refused, answered}
 use Rattle.walk.specs.Refusals.{tableFull}
 use Rattle.walk.proofs.ListLaws.{sets-front}
 use Rattle.entry_table.specs.Slots.{stride, slotsIn}
-use Rattle.entry_table.specs.Table.{Table, table, known, Addition, addAll}
+use Rattle.entry_table.specs.Table.{Table, known, addAll}
 use Rattle.entry_table.specs.Storing.{newKeys, keysOf, adding, usedAfter, wordsAfter}
 use Rattle.entry_table.proofs.CountLaws.{adding-room, used-all}
 use Rattle.entry_table.proofs.KeptLaws.{all-kept}
-use Rattle.rewind.specs.Environment.{Environment, environmentOf, refusalOf}
-use Rattle.rewind.specs.Starting.{additions, usedBackward, copied, Tables, starting, started, begun, firstAfter, forwardAfter}
-use Rattle.rewind.specs.Walking.{walkedBack}
-use Rattle.rewind.specs.declared.Rewind.{Rewind}
-use Rattle.rewind.proofs.RecordLaws.{additions-back}
-use Rattle.rewind.proofs.TurnLaws.{passed, tested-refused, tested-passed}
-
--- a table with more slots used than there are has no room
-pub room-short : (used more slots : ℕ) → slots < used → false ≡ leb (used + more) slots
-room-short used more slots h = sym (lt-leb (used + more) slots (omega arith))
+use Rattle.rewind_records.specs.Environment.{Environment, environmentOf, refusalOf, additions}
+use Rattle.rewind.specs.Starting.{copied, starting, started}
+use Rattle.rewind.specs.Promise.{Starts}
+use Rattle.rewind.specs.declared.Started.{Started}
+use Rattle.rewind.specs.declared.Started.the-variants.{Begun, Refused}
+use Rattle.rewind_records.specs.Walking.{walkedBack}
+use Rattle.rewind_records.proofs.RecordLaws.{additions-back}
+use Rattle.rewind_records.proofs.TurnLaws.{passed, tested-refused, tested-passed}
 
 module _ (journal image l : List ℕ) (t : Table) (words : List ℕ) where
   abbrev env : Environment
   env = environmentOf journal image l
 
-  abbrev Comes : Outcome Rewind → List ℕ → List ℕ → Type 0
-  Comes o s f =
-      (o ≡ mapOutcome begun (started journal image l t words))
-      × ((s ≡ firstAfter (started journal image l t words) (t .words))
-      × (f ≡ forwardAfter (started journal image l t words) words))
+  abbrev Comes : Started → List ℕ → List ℕ → Type 0
+  Comes = Starts journal image l t words
 
-  refuses : {n : ℕ} → started journal image l t words ≡ refused n → Comes (refused n) (t .words) words
-  refuses e = rw e (refl, (refl, refl))
+  refuses : {n : ℕ} → started journal image l t words ≡ refused n → Comes (Refused n) (t .words) words
+  refuses e = record { answer = rw e; first = rw e; forward = rw e }
 
   module _ {n : ℕ} (e : n ≡ refusalOf env t) where
-    pub start-refused : (n ≡ 0 → ⊥) → Comes (refused n) (t .words) words
+    pub start-refused : (n ≡ 0 → ⊥) → Comes (Refused n) (t .words) words
     unfolding starting
     start-refused h = refuses (tested-refused env t _ e h)
 
@@ -55,7 +50,7 @@ module _ (journal image l : List ℕ) (t : Table) (words : List ℕ) where
       pub start-fits : t .used ≤ slotsIn (t .words)
       start-fits = passed env t (sym e ∙ h) .fits
 
-      pub first-full : {b : Bool} → b ≡ leb need (slotsIn (t .words)) → b ≡ false → Comes (refused tableFull) (t .words) words
+      pub first-full : {b : Bool} → b ≡ leb need (slotsIn (t .words)) → b ≡ false → Comes (Refused tableFull) (t .words) words
       unfolding starting
       first-full f g =
           let x : ltb (slotsIn (t .words)) need ≡ true = lt-ltb _ _ (leb-false need (slotsIn (t .words)) (sym f ∙ g)) in
@@ -65,7 +60,7 @@ module _ (journal image l : List ℕ) (t : Table) (words : List ℕ) where
         pub first-room : need ≤ slotsIn (t .words)
         first-room = leb-true _ _ (sym f ∙ g)
 
-        pub forward-full : {d : Bool} → d ≡ leb need (slotsIn words) → d ≡ false → Comes (refused tableFull) (t .words) words
+        pub forward-full : {d : Bool} → d ≡ leb need (slotsIn words) → d ≡ false → Comes (Refused tableFull) (t .words) words
         unfolding starting
         forward-full p q =
             let x : ltb (slotsIn words) need ≡ true = lt-ltb _ _ (leb-false need (slotsIn words) (sym p ∙ q)) in
@@ -109,11 +104,11 @@ module _ (journal image l : List ℕ) (t : Table) (words : List ℕ) where
                 let long : length s ≡ length (t .words) = ap length after-words ∙ all-kept t (walkedBack journal l) .long in
                 omega (arith, used-need, first-room)
 
-            pub start-begun : {f : List ℕ} → f ≡ sets words 0 (take (m * stride - 0) (drop 0 s)) → Comes (answered (record { used = m; position = 0 })) s f
+            pub start-begun : {f : List ℕ} → f ≡ sets words 0 (take (m * stride - 0) (drop 0 s)) → Comes (Begun (record { used = m; position = 0 })) s f
             start-begun {f} w =
                 let k : m * stride - 0 ≡ m * stride = omega arith in
                 let c : f ≡ sets words 0 (take (m * stride) s) = w ∙ ap (λ (j : ℕ). sets words 0 (take j s)) k in
                 let g : length (take (m * stride) s) ≤ length words = simp length-take (omega (arith, copy-room)) in
                 let v : f ≡ copied (addAll t (walkedBack journal l)) words .words =
                 c ∙ sets-front words (take (m * stride) s) g ∙ rw (after-used, after-words) in
-                rw starts (rw after-used, (after-words, v))
+                record { answer = rw (starts, after-used); first = rw starts after-words; forward = rw starts v }

@@ -1,44 +1,53 @@
 -- A step of a rewind by its ways out: the answer, the state, and what the lent words, list and text then hold. Assumes nothing.
-use Prim.Native.Nat.{ℕ, _+_, _*_, _≤_, _<_}
+use Prim.Native.Nat.{ℕ, _+_, _-_, _*_, _≤_, _<_}
 use mathlib.Core.Path.{_≡_, refl, ap, sym, _∙_}
 use mathlib.Core.List.{List, [], _∷_}
-use mathlib.Core.Bool.{Bool, true, false, cond}
+use mathlib.Core.Bool.{Bool, true, false}
 use native.Mathlib.Omega.{arith}
 use borrow.Author.Tests.{eqb-true, ltb-true, ltb-false}
 use lib.ListN.{length, drop}
 use lib.Dec.{ltb, eqb}
 use Rattle.walk.specs.Outcome.{Outcome, refused, answered, mapOutcome}
-use Rattle.walk.specs.Lists.{listAfter}
-use Rattle.walk.specs.Refusals.{tableFull, textFull, domain}
+use Rattle.walk.specs.Refusals.{textFull}
 use Rattle.walk.proofs.ChoiceLaws.{cond-cases}
-use Rattle.entry_table.specs.Names.{lengthsOf, inside, allInside}
-use Rattle.entry_table.specs.Slots.{stride, slotsIn, keyAt, infoAt, putAt, namesIn}
-use Rattle.entry_table.specs.Table.{Table, table, slotFor, Addition, addition, add}
+use Rattle.walk.proofs.ListLaws.{sets-front}
+use Rattle.entry_table.specs.Names.{lengthsOf, inside}
+use Rattle.entry_table.specs.Slots.{stride, slotsIn}
+use Rattle.entry_table.specs.Table.{Table, table, Addition}
 use Rattle.entry_table.specs.Storing.{adding, usedAfter, wordsAfter}
-use Rattle.entry_table.specs.declared.EntryKey.{EntryKey}
-use Rattle.entry_table.specs.declared.EntryInfo.{EntryInfo}
-use Rattle.entry_table.proofs.AddLaws.{Added, adding-added, added-fits, added-none, added-table, names-added, put-back, slot-full}
+use Rattle.entry_table.proofs.AddLaws.{Added, adding-added, added-fits, added-none, added-table}
+use Rattle.entry_index.proofs.AddLaws.{none-indexed}
 use Rattle.chain.specs.Settings.{depth}
 use Rattle.chain.specs.declared.ResolvedPath.{ResolvedPath}
 use Rattle.chain.specs.Chain.{chainOf, resolved}
 use Rattle.chain.specs.Tracing.{listed}
-use Rattle.path.specs.Telling.{Told, withText}
+use Rattle.path.specs.Telling.{withText}
 use Rattle.path.proofs.CallLaws.{text-fits}
-use Rattle.rewind.specs.Entries.{forward}
-use Rattle.rewind.specs.Environment.{Environment, environmentOf, recordsIn, offsetIn, entriesOf, refusalOf}
-use Rattle.rewind.specs.Walking.{entryIn}
+use Rattle.rewind_records.specs.Entries.{forward}
+use Rattle.rewind_records.specs.Environment.{Environment, environmentOf, recordsIn, offsetIn, entriesOf, refusalOf}
+use Rattle.rewind_records.specs.Walking.{entryIn}
 use Rattle.rewind.specs.Stepping as step
-use Rattle.rewind.specs.Stepping.{Next, ended, next, firstOf, turning, Step, stepOf, forwardTable, stepped, stepAnswer, rewindAfter, chainAfter, turnOutcome}
-use Rattle.rewind.specs.Telling.{nextText, told, toldAnswer, telling, tellingOutcome}
+use Rattle.rewind_records.specs.Turning.{Next, ended, next, firstOf, turning, turnOutcome}
+use Rattle.rewind_steps.specs.Taking.{Step, stepOf}
+use Rattle.rewind.specs.Stepping.{forwardTable, stepped}
+use Rattle.rewind_steps.specs.Telling.{recordText, nextText}
+use Rattle.rewind.specs.Telling.{told}
+use Rattle.rewind_steps.specs.Making.{making}
+use Rattle.rewind.specs.Promise.{ChainSteps, PathSteps}
+use Rattle.rewind_steps.specs.Promise.{StepAsks, StepLeaves}
 use Rattle.rewind.specs.declared.Rewind.{Rewind}
-use Rattle.rewind.specs.declared.entries.RecordEntry.{RecordEntry}
-use Rattle.rewind.specs.declared.turn.Turn.{Turn}
-use Rattle.rewind.specs.declared.turn.Turn.the-variants as turn
-use Rattle.rewind.specs.declared.telling.Telling.{Telling}
-use Rattle.rewind.specs.declared.telling.Telling.the-variants.{Path, Full}
-use Rattle.rewind.proofs.EntryLaws.{entry-inside}
-use Rattle.rewind.proofs.RecordLaws.{number-answered, next-is, none-left}
-use Rattle.rewind.proofs.TurnLaws.{Passed, passed}
+use Rattle.rewind.specs.declared.ChainStep.{ChainStep}
+use Rattle.rewind.specs.declared.NextChain.the-variants as chained
+use Rattle.rewind.specs.declared.PathStep.{PathStep}
+use Rattle.rewind.specs.declared.NextPath.the-variants as path
+use Rattle.rewind_records.specs.declared.entries.RecordEntry.{RecordEntry}
+use Rattle.rewind_records.specs.declared.turn.Turn.{Turn}
+use Rattle.rewind_records.specs.declared.turn.Turn.the-variants as turn
+use Rattle.rewind_steps.specs.declared.Made.{Made}
+use Rattle.rewind_steps.specs.declared.Made.the-variants.{To, End, Refused}
+use Rattle.rewind_records.proofs.EntryLaws.{entry-inside}
+use Rattle.rewind_records.proofs.RecordLaws.{number-answered, next-is, none-left}
+use Rattle.rewind_records.proofs.TurnLaws.{Passed, passed}
 
 -- what holds where a record is next
 pub record Turned (journal image l : List ℕ) (t : Table) (p : ℕ) (e : RecordEntry) : Type 0 where
@@ -83,51 +92,48 @@ module _ (journal image l words : List ℕ) (r : Rewind) where
   abbrev t : Table
   t = forwardTable words r
 
-  -- what a step without text has to come to: its answer, the state, the words and the list
-  abbrev ComesChain : List ℕ → Outcome (Next ResolvedPath) → Rewind → List ℕ → List ℕ → Type 0
-  ComesChain x o q s m =
-      (o ≡ stepAnswer (stepped journal image l words r))
-      × ((q ≡ rewindAfter (stepped journal image l words r) r)
-      × ((s ≡ step.wordsAfter (stepped journal image l words r) words)
-      × (m ≡ chainAfter (stepped journal image l words r) x)))
+  abbrev ComesChain : List ℕ → ChainStep → List ℕ → List ℕ → Type 0
+  ComesChain x = ChainSteps journal image l words r x
 
-  -- and with text: the text too
-  abbrev ComesText : List ℕ → List ℕ → Outcome (Next Told) → Rewind → List ℕ → List ℕ → List ℕ → Type 0
-  ComesText x y o q s m n =
-      (o ≡ toldAnswer journal image (told journal image l words r (length y)))
-      × ((q ≡ rewindAfter (told journal image l words r (length y)) r)
-      × ((s ≡ step.wordsAfter (told journal image l words r (length y)) words)
-      × ((m ≡ chainAfter (told journal image l words r (length y)) x)
-      × (n ≡ listAfter (nextText journal image) (told journal image l words r (length y)) y))))
+  -- with text, where the step comes to w
+  abbrev ComesTo : Outcome (Next Step) → List ℕ → List ℕ → PathStep → List ℕ → List ℕ → List ℕ → Type 0
+  ComesTo w x y = PathSteps journal image w r words x y
 
-  refuses : (x : List ℕ) {n : ℕ} → stepped journal image l words r ≡ refused n → ComesChain x (refused n) r words x
-  refuses x e = rw e (refl, (refl, (refl, refl)))
+  abbrev ComesText : List ℕ → List ℕ → PathStep → List ℕ → List ℕ → List ℕ → Type 0
+  ComesText x y = ComesTo (told journal image l words r (length y)) x y
 
-  refuses-text : (x y : List ℕ) {n : ℕ} → told journal image l words r (length y) ≡ refused n → ComesText x y (refused n) r words x y
-  refuses-text x y e = rw e (refl, (refl, (refl, (refl, refl))))
+  -- what making a step at the front of a text leaves, where it comes to o
+  abbrev Out : List ℕ → ℕ → List ℕ → Made → List ℕ → List ℕ → List ℕ → List ℕ → Outcome (Next Step) → Type 0
+  Out text m nexts v f h n x o = StepLeaves journal image 0 m nexts text o t v f h n x
+
+  refuses : (x : List ℕ) {n : ℕ} → stepped journal image l words r ≡ refused n → ComesChain x (record { next = chained.Refused n; rewind = r }) words x
+  refuses x e = record { answer = rw e; state = rw e; forward = rw e; places = rw e }
+
+  refuses-text : (x y : List ℕ) {n : ℕ} → told journal image l words r (length y) ≡ refused n → ComesText x y (record { next = path.Refused n; rewind = r }) words x y
+  refuses-text x y e = record { answer = rw e; state = rw e; forward = rw e; places = rw e; written = rw e }
 
   module _ {u : Turn} (e : turnOutcome u ≡ turning env t (r .position)) where
     module _ {n : ℕ} (g : u ≡ turn.Refused n) where
       none : stepped journal image l words r ≡ refused n
       none = let f : turning env t (r .position) ≡ refused n = sym e ∙ ap turnOutcome g in rw f
 
-      pub chain-refused : (x : List ℕ) → ComesChain x (refused n) r words x
+      pub chain-refused : (x : List ℕ) → ComesChain x (record { next = chained.Refused n; rewind = r }) words x
       chain-refused x = refuses x none
 
-      pub text-refused : (x y : List ℕ) → ComesText x y (refused n) r words x y
+      pub text-refused : (x y : List ℕ) → ComesText x y (record { next = path.Refused n; rewind = r }) words x y
       text-refused x y = refuses-text x y (ap (withText (nextText journal image) (length y)) none)
 
     module _ (g : u ≡ turn.End) where
       over : stepped journal image l words r ≡ answered ended
       over = let f : turning env t (r .position) ≡ answered ended = sym e ∙ ap turnOutcome g in rw f
 
-      pub chain-ended : (x : List ℕ) → ComesChain x (answered ended) r words x
-      chain-ended x = rw over (refl, (refl, (refl, refl)))
+      pub chain-ended : (x : List ℕ) → ComesChain x (record { next = chained.End; rewind = r }) words x
+      chain-ended x = record { answer = rw over; state = rw over; forward = rw over; places = rw over }
 
-      pub text-ended : (x y : List ℕ) → ComesText x y (answered ended) r words x y
+      pub text-ended : (x y : List ℕ) → ComesText x y (record { next = path.End; rewind = r }) words x y
       text-ended x y =
           let o : told journal image l words r (length y) ≡ answered ended = text-fits (nextText journal image) (length y) over (omega arith) in
-          rw o (refl, (refl, (refl, (refl, refl))))
+          record { answer = rw o; state = rw o; forward = rw o; places = rw o; written = rw o }
 
     module _ {d : RecordEntry} (g : u ≡ turn.Entry d) where
       is : turning env t (r .position) ≡ answered (next d)
@@ -139,12 +145,90 @@ module _ (journal image l words : List ℕ) (r : Rewind) where
       by-adding : stepped journal image l words r ≡ mapOutcome (λ u. next (stepOf depth d u)) (adding t (forward d ∷ []))
       by-adding = rw is
 
-      -- no slot is left
-      pub slot-none : (x y : List ℕ) {at : ℕ} → at ≡ slotFor t (d .key) → slotsIn words ≤ at → ComesText x y (refused tableFull) r words x y
-      slot-none x y q h =
-          let full : adding t (forward d ∷ []) ≡ refused tableFull = slot-full t (forward d) (record-next .tests .fits) (rw q at h) in
-          let k : stepped journal image l words r ≡ refused tableFull = by-adding ∙ rw full in
-          refuses-text x y (ap (withText (nextText journal image) (length y)) k)
+      -- a step with text is what is made of that record: a refusal, or the table with the record in it, where its text has room
+      told-making : (room : ℕ) → told journal image l words r room ≡ making journal image t d room
+      told-making room = ap (withText (nextText journal image) room) by-adding
+
+      making-cases : (P : Outcome (Next Step) → Type 0) (room : ℕ) → ((k : ℕ) → P (refused k))
+          → ((v : Table) → adding t (forward d ∷ []) ≡ answered v → length (recordText journal image (stepOf depth d v)) ≤ room → P (answered (next (stepOf depth d v))))
+          → P (making journal image t d room)
+      making-cases P room none some = go (adding t (forward d ∷ [])) refl
+        where
+          go : (a : Outcome Table) → adding t (forward d ∷ []) ≡ a → P (withText (nextText journal image) room (mapOutcome (λ u. next (stepOf depth d u)) a))
+          go (refused k) f = none k
+          go (answered v) f =
+              cond-cases P (ltb room (length (recordText journal image (stepOf depth d v)))) (λ _. none textFull) (λ h. some v f (ltb-false room (length (recordText journal image (stepOf depth d v))) h))
+
+      -- what making it asks, with no index
+      pub made-asks : (text : List ℕ) → StepAsks journal image t [] [] (d .info .name) 0 text
+      made-asks text =
+          let w = record-next in
+          record {
+            fits = w .tests .fits;
+            index = none-indexed words [] [] (r .used) (omega (arith, w .tests .fits)) (omega arith) .1;
+            wide = λ p. absurd (omega arith);
+            names = w .tests .places;
+            near-journal = w .tests .journal;
+            near-image = w .tests .image;
+            own = w .own;
+            room = omega arith;
+          }
+
+      -- and what it leaves
+      module _ (list text : List ℕ) {m : ℕ} {nexts h n : List ℕ} {v : Made} {f x : List ℕ} (c : Out text m nexts v f h n x (making journal image t d (length text - 0))) where
+        by-made : (P : Outcome (Next Step) → Type 0) → ((k : ℕ) → Out text m nexts v f h n x (refused k) → P (refused k))
+            → ((u : Table) → adding t (forward d ∷ []) ≡ answered u → length (recordText journal image (stepOf depth d u)) ≤ length text
+            → Out text m nexts v f h n x (answered (next (stepOf depth d u))) → P (answered (next (stepOf depth d u))))
+            → P (told journal image l words r (length text))
+        by-made P none some =
+            let k : length text - 0 ≡ length text = omega arith in
+            let w : Out text m nexts v f h n x (making journal image t d (length text)) = rw k at c in
+            rw (told-making (length text)) (making-cases (λ o. Out text m nexts v f h n x o → P o) (length text) none some w)
+
+        pub made-refused : {k : ℕ} → v ≡ Refused k → ComesText list text (record { next = path.Refused k; rewind = r }) f list x
+        made-refused {k} y =
+            by-made (λ o. ComesTo o list text (record { next = path.Refused k; rewind = r }) f list x)
+            (λ j w. let both : Refused k ≡ Refused j = sym y ∙ w .answer in let same : k ≡ j = cc in record { answer = ap refused same; state = refl; forward = w .forward; places = refl; written = w .text-is })
+            (λ u e fits w. let both : Refused k ≡ To (0 + length (recordText journal image (stepOf depth d u))) (u .used) = sym y ∙ w .answer in let z : _≡_ {A = ℕ} 0 1 = cc in absurd (omega arith))
+
+        pub made-end : v ≡ End → ComesText list text (record { next = path.End; rewind = r }) f list x
+        made-end y =
+            by-made (λ o. ComesTo o list text (record { next = path.End; rewind = r }) f list x)
+            (λ j w. let both : End ≡ Refused j = sym y ∙ w .answer in let z : _≡_ {A = ℕ} 0 1 = cc in absurd (omega arith))
+            (λ u e fits w. let both : End ≡ To (0 + length (recordText journal image (stepOf depth d u))) (u .used) = sym y ∙ w .answer in let z : _≡_ {A = ℕ} 0 1 = cc in absurd (omega arith))
+
+        module _ {at used : ℕ} (y : v ≡ To at used) where
+          pub made-fits : used * stride ≤ length f
+          made-fits =
+              by-made (λ o. used * stride ≤ length f)
+              (λ j w. let both : To at used ≡ Refused j = sym y ∙ w .answer in let z : _≡_ {A = ℕ} 0 1 = cc in absurd (omega arith))
+              (λ u e fits w.
+              let both : To at used ≡ To (0 + length (recordText journal image (stepOf depth d u))) (u .used) = sym y ∙ w .answer in
+              let same : used ≡ u .used = cc in
+              let a = adding-added t (forward d) e in
+              let room : u .used ≤ slotsIn (u .words) = rw (← a .leaves) at (added-fits t (forward d) (a .room)) in
+              omega (arith, ap length (w .forward)))
+
+          pub made-to : {p : ResolvedPath} {q : List ℕ} → p ≡ resolved (chainOf (table f used) depth (d .info .parent))
+              → q ≡ listed list (chainOf (table f used) depth (d .info .parent) .places)
+              → ComesText list text (record { next = path.Record p at; rewind = record { used = used; position = r .position + 1 } }) f q x
+          made-to {p} {q} ep eq =
+              by-made (λ o. ComesTo o list text (record { next = path.Record p at; rewind = record { used = used; position = r .position + 1 } }) f q x)
+              (λ j w. let both : To at used ≡ Refused j = sym y ∙ w .answer in let z : _≡_ {A = ℕ} 0 1 = cc in absurd (omega arith))
+              (λ u e fits w.
+              let both : To at used ≡ To (0 + length (recordText journal image (stepOf depth d u))) (u .used) = sym y ∙ w .answer in
+              let same : used ≡ u .used = cc in
+              let ends : at ≡ 0 + length (recordText journal image (stepOf depth d u)) = cc in
+              let long : at ≡ length (recordText journal image (stepOf depth d u)) = omega (arith, ends) in
+              let whole : table f used ≡ u = λ i. record { words = w .forward i; used = same i } in
+              let way : p ≡ resolved (chainOf u depth (d .info .parent)) = rw whole at ep in
+              record {
+                answer = λ i. answered (next (record { path = way i; text = long i }));
+                state = λ i. record { used = same i; position = r .position + 1 };
+                forward = w .forward;
+                places = rw whole at eq;
+                written = w .text-is ∙ sets-front text (recordText journal image (stepOf depth d u)) fits;
+              })
 
       module _ {a : Addition} {o : Outcome ℕ} {s : List ℕ} (q : a ≡ forward d) (x : o ≡ usedAfter (adding t (a ∷ [])))
           (z : s ≡ wordsAfter (adding t (a ∷ [])) words) where
@@ -155,13 +239,8 @@ module _ (journal image l words : List ℕ) (r : Rewind) where
           pub full-words : s ≡ words
           full-words = added-none t a x z y .1
 
-          pub chain-full : (list : List ℕ) → ComesChain list (refused n) r s list
+          pub chain-full : (list : List ℕ) → ComesChain list (record { next = chained.Refused n; rewind = r }) s list
           chain-full list = rw full-words (refuses list (by-adding ∙ rw full))
-
-          pub text-full : (list text : List ℕ) → ComesText list text (refused n) r s list text
-          text-full list text =
-              let k : stepped journal image l words r ≡ refused n = by-adding ∙ rw full in
-              rw full-words (refuses-text list text (ap (withText (nextText journal image) (length text)) k))
 
         module _ {n : ℕ} (y : o ≡ answered n) where
           goes : adding t (forward d ∷ []) ≡ answered (table s n)
@@ -179,52 +258,7 @@ module _ (journal image l words : List ℕ) (r : Rewind) where
               let f : n ≤ slotsIn s = rw (← w .leaves) at (added-fits t (forward d) (w .room)) in
               omega arith
 
-          pub after-inside : allInside (lengthsOf journal image) (namesIn s n) ≡ true
-          after-inside =
-              rw (← w .leaves) at (names-added t (forward d) (w .room) (lengthsOf journal image) (record-next .tests .places) (record-next .own))
-
           pub chain-taken : (list : List ℕ) {p : ResolvedPath} {m : List ℕ} → p ≡ resolved (chainOf (table s n) depth (d .info .parent))
               → m ≡ listed list (chainOf (table s n) depth (d .info .parent) .places)
-              → ComesChain list (answered (next p)) (record { used = n; position = r .position + 1 }) s m
-          chain-taken list f k = rw step-is (rw f, (refl, (refl, k)))
-
-          module _ (list text : List ℕ) where
-            room-told : told journal image l words r (length text) ≡ telling journal image (table s n) (d .info .parent) (d .info .name) (length text)
-            room-told = ap (withText (nextText journal image) (length text)) step-is
-
-            module _ {v : Telling} {m k : List ℕ}
-                (f : tellingOutcome v ≡ toldAnswer journal image (telling journal image (table s n) (d .info .parent) (d .info .name) (length text)))
-                (fm : m ≡ chainAfter (telling journal image (table s n) (d .info .parent) (d .info .name) (length text)) list)
-                (fk : k ≡ listAfter (nextText journal image) (telling journal image (table s n) (d .info .parent) (d .info .name) (length text)) text) where
-              -- the text does not fit: what stood in the slot is put back
-              pub text-over : v ≡ Full → {at : ℕ} {key : EntryKey} {info : EntryInfo} {b : List ℕ} → at ≡ slotFor t (d .key) → key ≡ keyAt words at → info ≡ infoAt words at
-                  → b ≡ putAt s at key info → ComesText list text (refused textFull) r b m k
-              text-over h {at} {key} {info} {b} qa qk qi qb =
-                  let o′ = telling journal image (table s n) (d .info .parent) (d .info .name) (length text) in
-                  let ref : o′ ≡ refused textFull = refused-telling o′ (sym f ∙ ap tellingOutcome h) in
-                  let back : b ≡ words = qb ∙ rw (qk, qi) (rw (← w .leaves) at (put-back t (forward d) (w .room) qa)) in
-                  let keep : told journal image l words r (length text) ≡ refused textFull = room-told ∙ ref in
-                  rw (back, fm, fk, ref) (refuses-text list text keep)
-                where
-                  refused-telling : (o′ : Outcome (Next Step)) → toldAnswer journal image o′ ≡ refused textFull → o′ ≡ refused textFull
-                  refused-telling (refused c) j = cc
-                  refused-telling (answered c) j = let z : _≡_ {A = ℕ} 0 1 = cc in absurd (omega arith)
-
-              pub text-taken : {p : ResolvedPath} {c : ℕ} → v ≡ Path p c
-                  → ComesText list text (answered (next (record { path = p; text = c }))) (record { used = n; position = r .position + 1 }) s m k
-              text-taken {p} {c} h =
-                  let o′ = telling journal image (table s n) (d .info .parent) (d .info .name) (length text) in
-                  let ok : o′ ≡ answered (next (stepOf depth d (table s n))) = told-telling (sym f ∙ ap tellingOutcome h) in
-                  let same : told journal image l words r (length text) ≡ answered (next (stepOf depth d (table s n))) = room-told ∙ ok in
-                  let ans : answered (next (record { path = p; text = c })) ≡ toldAnswer journal image (told journal image l words r (length text)) =
-                  sym (ap tellingOutcome h) ∙ f ∙ ap (toldAnswer journal image) (sym room-told) in
-                  (ans, (rw same, (rw same, (fm ∙ ap (λ (z : Outcome (Next Step)). chainAfter z list) (sym room-told), fk ∙ ap (λ (z : Outcome (Next Step)). listAfter (nextText journal image) z text) (sym room-told)))))
-                where
-                  told-telling : toldAnswer journal image (telling journal image (table s n) (d .info .parent) (d .info .name) (length text)) ≡ answered (next (record { path = p; text = c }))
-                      → telling journal image (table s n) (d .info .parent) (d .info .name) (length text) ≡ answered (next (stepOf depth d (table s n)))
-                  told-telling =
-                      cond-cases
-                      (λ (o : Outcome (Next Step)). toldAnswer journal image o ≡ answered (next (record { path = p; text = c })) → o ≡ answered (next (stepOf depth d (table s n))))
-                      (ltb (length text) (length (nextText journal image (next (stepOf depth d (table s n))))))
-                      (λ _ j. let z : _≡_ {A = ℕ} 0 1 = cc in absurd (omega arith))
-                      (λ _ j. refl)
+              → ComesChain list (record { next = chained.Record p; rewind = record { used = n; position = r .position + 1 } }) s m
+          chain-taken list f k = record { answer = rw (step-is, f); state = rw step-is; forward = rw step-is; places = rw step-is k }

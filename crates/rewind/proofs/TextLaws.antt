@@ -16,13 +16,16 @@ use Rattle.entry_table.specs.Storing.{adding}
 use Rattle.entry_table.specs.InTurn.{andThen}
 use Rattle.chain.specs.Settings.{depth}
 use Rattle.path.proofs.TwoRuns.{Answers, retried}
-use Rattle.rewind.specs.Entries.{forward}
-use Rattle.rewind.specs.Environment.{Environment, environmentOf, allAnswered, refusalOf, tested}
+use Rattle.rewind_records.specs.Entries.{forward}
+use Rattle.rewind_records.specs.Environment.{Environment, environmentOf, allAnswered, refusalOf, tested}
 use Rattle.rewind.specs.Starting.{usedBackward, starting}
-use Rattle.rewind.specs.Stepping.{Next, ended, next, turning, taken, forwardTable, stepping, stepped}
-use Rattle.rewind.specs.Telling.{nextText, told}
+use Rattle.rewind_records.specs.Turning.{Next, ended, next, turning}
+use Rattle.rewind_steps.specs.Taking.{taken}
+use Rattle.rewind.specs.Stepping.{forwardTable, stepping, stepped}
+use Rattle.rewind_steps.specs.Telling.{nextText}
+use Rattle.rewind.specs.Telling.{told}
 use Rattle.rewind.specs.declared.Rewind.{Rewind}
-use Rattle.rewind.specs.declared.entries.RecordEntry.{RecordEntry}
+use Rattle.rewind_records.specs.declared.entries.RecordEntry.{RecordEntry}
 
 -- an outcome that is not 8
 abbrev pub NotFull : {A : Type 0} → Outcome A → Type 0

@@ -1,24 +1,19 @@
 -- The start of a rewind: the walk from the last record to the first, over the first table, and the copy that the steps go forward on.
 use Prim.Native.Nat.{ℕ, _+_, _*_}
-use mathlib.Core.List.{List, map, reverse}
+use mathlib.Core.List.{List}
 use mathlib.Core.Bool.{cond, _||_}
 use lib.ListN.{take}
 use lib.Dec.{ltb}
-use Rattle.walk.specs.Outcome.{Outcome, refused, answered, mapOutcome}
+use Rattle.walk.specs.Outcome.{Outcome, refused, answered}
 use Rattle.walk.specs.Lists.{overwrite}
 use Rattle.walk.specs.Refusals.{tableFull}
 use Rattle.entry_table.specs.Slots.{stride, slotsIn}
-use Rattle.entry_table.specs.Table.{Table, table, known, Addition, addAll}
+use Rattle.entry_table.specs.Table.{Table, table, known, addAll}
 use Rattle.entry_table.specs.Storing.{newKeys, keysOf}
-use Rattle.rewind.specs.Entries.{backward}
-use Rattle.rewind.specs.Environment.{Environment, environmentOf, entriesOf, tested}
+use Rattle.rewind_records.specs.Environment.{Environment, environmentOf, additions, tested}
 use Rattle.rewind.specs.declared.Rewind.{Rewind}
 use Rattle.rewind.specs.declared.Started.{Started}
 use Rattle.rewind.specs.declared.Started.the-variants.{Begun, Refused}
-
--- what the records add, from the last one to the first
-abbrev pub additions : Environment → List Addition
-additions env = map backward (reverse (entriesOf (env .records)))
 
 -- the slots that are used after it: those used before, and one for each different new key
 abbrev pub usedBackward : Environment → Table → ℕ

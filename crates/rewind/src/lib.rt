@@ -10,39 +10,20 @@
 //
 // Every function here is proved. No call has a `requires`: any bytes, lists, tables and states get an answer. Names decide
 // nothing but the text and whether it fits.
-pub mod backward;
-pub mod entries;
+pub mod start;
 pub mod telling;
-pub mod turn;
 
-ghost use mathlib.Core.Path.{_≡_};
-ghost use lib.ListN.{length};
-ghost use Rattle.walk.specs.Outcome.{mapOutcome};
-ghost use Rattle.walk.specs.Lists.{listAfter};
-ghost use Rattle.entry_table.specs.Table.{table};
-ghost use Rattle.rewind.specs.Starting.{started, begun, firstAfter, forwardAfter, startOutcome};
-ghost use Rattle.rewind.specs.Stepping.{stepped, stepAnswer, rewindAfter, wordsAfter, chainAfter, outcome};
-ghost use Rattle.rewind.specs.Telling.{told, nextText, toldAnswer, toldOutcome};
-use crate::backward::add_backward;
-use crate::backward::has_room;
-use crate::entries::replaces_forward;
-use crate::telling::Telling;
+ghost use Rattle.rewind.specs.Promise.{StartPromise, NextPromise, NextChainPromise};
+use crate::start::begin;
 use crate::telling::chain_of;
-use crate::telling::tell;
-use crate::turn::Turn;
-use crate::turn::next_record;
-use crate::turn::refusal;
 use chain::ResolvedPath;
+use entry_index::plain::add;
 use entry_table::Stored;
-use entry_table::slots::STRIDE;
-use entry_table::slots::add;
-use entry_table::slots::info_at;
-use entry_table::slots::key_at;
-use entry_table::slots::put;
-use entry_table::slots::slot_for;
-use walk::TABLE_FULL;
-use walk::TEXT_FULL;
-use walk::put_words;
+use rewind_records::entries::replaces_forward;
+use rewind_records::turn::Turn;
+use rewind_records::turn::next_record;
+use rewind_steps::Made;
+use rewind_steps::make_step;
 
 // A rewind under way: how many slots of the forward table are used, and how many records are behind.
 pub struct Rewind {
@@ -95,30 +76,20 @@ pub fn rewind_start(
     used: usize,
     forward: &mut [u64],
 ) -> Started
-    ensures { λ r. ⌜ startOutcome r ≡ mapOutcome begun (started (now (journal .entry)) (now (image .entry)) (now (records .entry)) (table (now (slots .entry)) used) (now (forward .entry))) ⌝ }
-    ensures { λ _. ⌜ now (slots .exit) ≡ firstAfter (started (now (journal .entry)) (now (image .entry)) (now (records .entry)) (table (now (slots .entry)) used) (now (forward .entry))) (now (slots .entry)) ⌝ }
-    ensures { λ _. ⌜ now (forward .exit) ≡ forwardAfter (started (now (journal .entry)) (now (image .entry)) (now (records .entry)) (table (now (slots .entry)) used) (now (forward .entry))) (now (forward .entry)) ⌝ }
+    ensures { λ r. ⌜ StartPromise journal image records slots used forward r ⌝ }
 {
-    let refused = refusal(journal, image.len(), records, slots, used);
-    if refused != 0 {
-        return Started::Refused(refused);
-    }
-    if !has_room(journal, records, slots, used, slots.len() / STRIDE) {
-        return Started::Refused(TABLE_FULL);
-    }
-    if !has_room(journal, records, slots, used, forward.len() / STRIDE) {
-        return Started::Refused(TABLE_FULL);
-    }
-    match add_backward(journal, records, slots, used) {
-        Stored::Refused(n) => Started::Refused(n),
-        Stored::Used(n) => {
-            put_words(forward, 0, &slots[0..n * STRIDE]);
-            Started::Begun(Rewind {
-                used: n,
-                position: 0,
-            })
-        }
-    }
+    let mut heads: [u64; 0] = [];
+    let mut nexts: [u64; 0] = [];
+    begin(
+        journal,
+        image,
+        records,
+        slots,
+        used,
+        forward,
+        &mut heads,
+        &mut nexts,
+    )
 }
 
 // The next record goes into the forward table: with a new name or a creation it is inserted, otherwise it is added if its key
@@ -136,13 +107,16 @@ pub fn rewind_next(
     list: &mut [u64],
     text: &mut [u8],
 ) -> PathStep
-    ensures { λ r. ⌜ toldOutcome (r .next) ≡ toldAnswer (now (journal .entry)) (now (image .entry)) (told (now (journal .entry)) (now (image .entry)) (now (records .entry)) (now (forward .entry)) rewind (length (now (text .entry)))) ⌝ }
-    ensures { λ r. ⌜ r .rewind ≡ rewindAfter (told (now (journal .entry)) (now (image .entry)) (now (records .entry)) (now (forward .entry)) rewind (length (now (text .entry)))) rewind ⌝ }
-    ensures { λ _. ⌜ now (forward .exit) ≡ wordsAfter (told (now (journal .entry)) (now (image .entry)) (now (records .entry)) (now (forward .entry)) rewind (length (now (text .entry)))) (now (forward .entry)) ⌝ }
-    ensures { λ _. ⌜ now (list .exit) ≡ chainAfter (told (now (journal .entry)) (now (image .entry)) (now (records .entry)) (now (forward .entry)) rewind (length (now (text .entry)))) (now (list .entry)) ⌝ }
-    ensures { λ _. ⌜ now (text .exit) ≡ listAfter (nextText (now (journal .entry)) (now (image .entry))) (told (now (journal .entry)) (now (image .entry)) (now (records .entry)) (now (forward .entry)) rewind (length (now (text .entry)))) (now (text .entry)) ⌝ }
+    ensures { λ r. ⌜ NextPromise journal image records rewind forward list text r ⌝ }
 {
-    match next_record(journal, image.len(), records, forward, rewind) {
+    match next_record(
+        journal,
+        image.len(),
+        records,
+        forward,
+        rewind.used,
+        rewind.position,
+    ) {
         Turn::Refused(n) => PathStep {
             next: NextPath::Refused(n),
             rewind,
@@ -152,54 +126,41 @@ pub fn rewind_next(
             rewind,
         },
         Turn::Entry(entry) => {
-            let at = slot_for(forward, rewind.used, entry.key);
-            if forward.len() / STRIDE <= at {
-                return PathStep {
-                    next: NextPath::Refused(TABLE_FULL),
-                    rewind,
-                };
-            }
-            let old_key = key_at(forward, at);
-            let old_info = info_at(forward, at);
-            match add(
-                forward,
+            let mut heads: [u64; 0] = [];
+            let mut nexts: [u64; 0] = [];
+            match make_step(
+                journal,
+                image,
+                entry,
                 rewind.used,
-                entry.key,
-                entry.info,
-                replaces_forward(entry),
+                forward,
+                &mut heads,
+                &mut nexts,
+                text,
+                0,
             ) {
-                Stored::Refused(n) => PathStep {
-                    next: NextPath::Refused(n),
-                    rewind,
-                },
-                Stored::Used(used) => {
+                Made::To { at: n, used } => {
                     let info = entry.info;
-                    match tell(
-                        journal,
-                        image,
-                        forward,
-                        used,
-                        info.parent,
-                        info.name,
-                        list,
-                        text,
-                    ) {
-                        Telling::Full => {
-                            put(forward, at, old_key, old_info);
-                            PathStep {
-                                next: NextPath::Refused(TEXT_FULL),
-                                rewind,
-                            }
-                        }
-                        Telling::Path { path, text: n } => PathStep {
-                            next: NextPath::Record { path, text: n },
-                            rewind: Rewind {
-                                used,
-                                position: rewind.position + 1,
-                            },
+                    let above = chain_of(forward, used, info.parent, list);
+                    PathStep {
+                        next: NextPath::Record {
+                            path: above,
+                            text: n,
+                        },
+                        rewind: Rewind {
+                            used,
+                            position: rewind.position + 1,
                         },
                     }
                 }
+                Made::End => PathStep {
+                    next: NextPath::End,
+                    rewind,
+                },
+                Made::Refused(n) => PathStep {
+                    next: NextPath::Refused(n),
+                    rewind,
+                },
             }
         }
     }
@@ -215,12 +176,16 @@ pub fn rewind_next_chain(
     forward: &mut [u64],
     list: &mut [u64],
 ) -> ChainStep
-    ensures { λ r. ⌜ outcome (r .next) ≡ stepAnswer (stepped (now (journal .entry)) (now (image .entry)) (now (records .entry)) (now (forward .entry)) rewind) ⌝ }
-    ensures { λ r. ⌜ r .rewind ≡ rewindAfter (stepped (now (journal .entry)) (now (image .entry)) (now (records .entry)) (now (forward .entry)) rewind) rewind ⌝ }
-    ensures { λ _. ⌜ now (forward .exit) ≡ wordsAfter (stepped (now (journal .entry)) (now (image .entry)) (now (records .entry)) (now (forward .entry)) rewind) (now (forward .entry)) ⌝ }
-    ensures { λ _. ⌜ now (list .exit) ≡ chainAfter (stepped (now (journal .entry)) (now (image .entry)) (now (records .entry)) (now (forward .entry)) rewind) (now (list .entry)) ⌝ }
+    ensures { λ r. ⌜ NextChainPromise journal image records rewind forward list r ⌝ }
 {
-    match next_record(journal, image.len(), records, forward, rewind) {
+    match next_record(
+        journal,
+        image.len(),
+        records,
+        forward,
+        rewind.used,
+        rewind.position,
+    ) {
         Turn::Refused(n) => ChainStep {
             next: NextChain::Refused(n),
             rewind,

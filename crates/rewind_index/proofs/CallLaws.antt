@@ -1,6 +1,6 @@
 -- A call of many steps by its ways out: where no step is made nothing is written, and otherwise the run is made with an index, or with none. Assumes
 -- nothing.
-use Prim.Native.Nat.{ℕ, suc, _+_, _-_, _*_, _≤_, _<_}
+use Prim.Native.Nat.{ℕ, suc, _-_, _*_, _≤_, _<_}
 use mathlib.Core.Path.{_≡_, refl, ap, sym, _∙_}
 use mathlib.Core.List.{List, [], _++_}
 use mathlib.Core.Bool.{Bool, true, false}
@@ -9,21 +9,22 @@ use borrow.Author.Tests.{lt-ltb, ne-eqb}
 use lib.ListN.{length}
 use lib.Dec.{eqb}
 use Rattle.walk.specs.Outcome.{refused, answered}
-use Rattle.walk.specs.Lists.{overwrite}
 use Rattle.entry_table.specs.Slots.{stride, slotsIn}
 use Rattle.entry_table.specs.Table.{Table}
-use Rattle.entry_index.specs.Index.{headsOf, nextsOf, Indexed, enough}
+use Rattle.entry_index.specs.Index.{headsOf, nextsOf, enough}
 use Rattle.entry_index.proofs.IndexLaws.{no-heads, no-nexts}
 use Rattle.entry_index.proofs.SeedLaws.{nexts-long, index-again, index-then, enough-room}
-use Rattle.rewind.specs.Environment.{Environment, environmentOf, refusalOf}
-use Rattle.rewind.specs.Stepping.{turning, forwardTable}
+use Rattle.rewind_records.specs.Environment.{Environment, environmentOf, refusalOf}
+use Rattle.rewind_records.specs.Turning.{turning}
+use Rattle.rewind.specs.Stepping.{forwardTable}
 use Rattle.rewind.specs.Telling.{told}
 use Rattle.rewind.specs.declared.Rewind.{Rewind}
-use Rattle.rewind.proofs.TurnLaws.{passed, turn-refused}
-use Rattle.rewind_steps.specs.Running.{Run, runFrom, onward, running, ran, runAnswer, runTable}
-use Rattle.rewind_steps.specs.declared.RewindRun.{RewindRun}
-use Rattle.rewind_steps.proofs.RunLaws.{stopAt, run-turn, run-none, Runs}
-use Rattle.rewind_index.specs.Indexing.{indexes, headsRun, nextsRun}
+use Rattle.rewind_records.proofs.TurnLaws.{passed, turn-refused}
+use Rattle.rewind_index.specs.Running.{Run, runFrom, onward, running, runTable}
+use Rattle.rewind_index.specs.Promise.{RunAsks, RunLeaves, runOut, built, RunsIndexed}
+use Rattle.rewind_index.specs.declared.RewindRun.{RewindRun}
+use Rattle.rewind_index.proofs.RunLaws.{stopAt, run-turn, run-none}
+use Rattle.rewind_index.specs.Indexing.{indexes}
 
 module _ (journal image records words : List ℕ) (r : Rewind) (heads nexts ends text : List ℕ) where
   abbrev t : Table
@@ -33,24 +34,20 @@ module _ (journal image records words : List ℕ) (r : Rewind) (heads nexts ends
   env = environmentOf journal image records
 
   abbrev all : Run
-  all = ran journal image records words r (length text) (length ends)
+  all = runOut journal image records words r heads nexts ends text
 
-  abbrev built : Bool
-  built = indexes journal image records words r (length ends) heads nexts
+  abbrev isBuilt : Bool
+  isBuilt = built journal image records words r heads nexts ends text
 
-  -- what the call has to leave: its answer, the words of the table, the heads, the nexts, the ends and the text
   abbrev Answers : RewindRun → List ℕ → List ℕ → List ℕ → List ℕ → List ℕ → Type 0
-  Answers a f h n e x =
-      (a ≡ runAnswer all)
-      × ((f ≡ all .words)
-      × ((h ≡ headsRun built all heads)
-      × ((n ≡ nextsRun built all heads nexts)
-      × ((e ≡ overwrite ends (all .ends))
-      × (x ≡ overwrite text (all .text))))))
+  Answers = RunsIndexed journal image records words r heads nexts ends text
+
+  abbrev Runs : List ℕ → List ℕ → RewindRun → List ℕ → List ℕ → List ℕ → List ℕ → List ℕ → Type 0
+  Runs h n = RunLeaves journal image records words r h n ends text
 
   -- no step is made
-  still : (k : ℕ) → all ≡ stopAt words (r .used) (r .position) [] [] k → built ≡ false → Answers (record { steps = 0; refusal = k; rewind = r }) words heads nexts ends text
-  still k e b = rw (e, b) (refl, (refl, (refl, (refl, (refl, refl)))))
+  still : (k : ℕ) → all ≡ stopAt words (r .used) (r .position) [] [] k → isBuilt ≡ false → Answers (record { steps = 0; refusal = k; rewind = r }) words heads nexts ends text
+  still k e b = record { answer = rw e; forward = rw e; heads-are = rw (e, b); nexts-are = rw (e, b); ends-are = rw e; text-is = rw e }
 
   pub run-zero : length ends ≡ 0 → Answers (record { steps = 0; refusal = 0; rewind = r }) words heads nexts ends text
   unfolding indexes
@@ -77,7 +74,7 @@ module _ (journal image records words : List ℕ) (r : Rewind) (heads nexts ends
       run-tests : refusalOf env t ≡ 0
       run-tests = sym e ∙ h
 
-      is-built : built ≡ enough (slotsIn words) heads nexts
+      is-built : isBuilt ≡ enough (slotsIn words) heads nexts
       unfolding indexes
       is-built = rw (lt-ltb 0 (length ends) some, run-tests)
 
@@ -89,20 +86,28 @@ module _ (journal image records words : List ℕ) (r : Rewind) (heads nexts ends
         build-asks = let fits : r .used ≤ slotsIn words = passed env t run-tests .fits in (omega arith, λ _. omega (arith, wide))
 
         module _ {h₁ n₁ : List ℕ} (eh : h₁ ≡ headsOf (length heads) t) (en : n₁ ≡ nextsOf (length heads) t nexts) where
-          pub run-asks : (refusalOf env t ≡ 0) × (Indexed t h₁ n₁ × (0 < length h₁ → slotsIn words ≤ length n₁))
-          run-asks = (run-tests, (index-again (length heads) t nexts eh en, λ _. omega (arith, wide, nexts-long (length heads) t nexts eh en)))
+          pub run-asks : RunAsks journal image records words r h₁ n₁
+          run-asks = record { passes = run-tests; index = index-again (length heads) t nexts eh en; wide = λ _. omega (arith, wide, nexts-long (length heads) t nexts eh en) }
 
-          pub run-built : {a : RewindRun} {w h′ n′ e′ x : List ℕ} → Runs journal image records words r h₁ n₁ ends text a w h′ n′ e′ x → Answers a w h′ n′ e′ x
+          pub run-built : {a : RewindRun} {w h′ n′ e′ x : List ℕ} → Runs h₁ n₁ a w h′ n′ e′ x → Answers a w h′ n′ e′ x
           run-built c =
-              let both = index-then (length heads) t nexts eh en {u = runTable all} {o = answered (runTable all)} refl (c .1 .1 .0) (c .1 .1 .1 .0) in
-              rw (is-built ∙ sym f ∙ g) (c .0, (c .1 .0, (both .0, (both .1, c .1 .1 .1 .1))))
+              let both = index-then (length heads) t nexts eh en {u = runTable all} {o = answered (runTable all)} refl (c .heads-are) (c .nexts-are) in
+              let b′ = is-built ∙ sym f ∙ g in
+              record { answer = c .answer; forward = c .forward; heads-are = rw b′ (both .0); nexts-are = rw b′ (both .1); ends-are = c .ends-are; text-is = c .text-is }
 
       module _ {b : Bool} (f : b ≡ enough (slotsIn words) heads nexts) (g : b ≡ false) where
-        pub plain-asks : (refusalOf env t ≡ 0) × (Indexed t [] nexts × (0 < length {A = ℕ} [] → slotsIn words ≤ length nexts))
-        plain-asks = (run-tests, ((no-heads 0 t [] (omega arith) refl, no-nexts 0 t nexts (omega arith)), λ p. absurd (omega arith)))
+        pub plain-asks : RunAsks journal image records words r [] nexts
+        plain-asks = record { passes = run-tests; index = (no-heads 0 t [] (omega arith) refl, no-nexts 0 t nexts (omega arith)); wide = λ p. absurd (omega arith) }
 
-        pub run-plain : {a : RewindRun} {w h′ n′ e′ x : List ℕ} → Runs journal image records words r [] nexts ends text a w h′ n′ e′ x → Answers a w (h′ ++ heads) n′ e′ x
+        pub run-plain : {a : RewindRun} {w h′ n′ e′ x : List ℕ} → Runs [] nexts a w h′ n′ e′ x → Answers a w (h′ ++ heads) n′ e′ x
         run-plain {h′ = h′} c =
-            let none : h′ ≡ [] = c .1 .1 .0 ∙ sym (no-heads 0 (runTable all) [] (omega arith) refl) in
-            rw (is-built ∙ sym f ∙ g)
-            (c .0, (c .1 .0, (ap (λ (l : List ℕ). l ++ heads) none, (c .1 .1 .1 .0 ∙ sym (no-nexts 0 (runTable all) nexts (omega arith)), c .1 .1 .1 .1))))
+            let none : h′ ≡ [] = c .heads-are ∙ sym (no-heads 0 (runTable all) [] (omega arith) refl) in
+            let b′ = is-built ∙ sym f ∙ g in
+            record {
+              answer = c .answer;
+              forward = c .forward;
+              heads-are = rw b′ (ap (λ (l : List ℕ). l ++ heads) none);
+              nexts-are = rw b′ (c .nexts-are ∙ sym (no-nexts 0 (runTable all) nexts (omega arith)));
+              ends-are = c .ends-are;
+              text-is = c .text-is;
+            }

@@ -6,10 +6,10 @@ use lib.ListN.{length}
 use lib.Dec.{ltb, eqb}
 use Rattle.entry_table.specs.Slots.{slotsIn}
 use Rattle.entry_index.specs.Index.{enough, headsOf, nextsOf}
-use Rattle.rewind.specs.Environment.{environmentOf, refusalOf}
+use Rattle.rewind_records.specs.Environment.{environmentOf, refusalOf}
 use Rattle.rewind.specs.Stepping.{forwardTable}
 use Rattle.rewind.specs.declared.Rewind.{Rewind}
-use Rattle.rewind_steps.specs.Running.{Run, runTable}
+use Rattle.rewind_index.specs.Running.{Run, runTable}
 
 -- an index is built where a step is asked for, no test of the first one refuses, and the lent words are enough; at the end it is that of the forward table
 unfoldable pub indexes : List ℕ → List ℕ → List ℕ → List ℕ → Rewind → ℕ → List ℕ → List ℕ → Bool

@@ -1,1 +1,4 @@
+pub mod Running
+pub mod Calls
 pub mod Indexing
+pub mod Promise

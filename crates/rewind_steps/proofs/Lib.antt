@@ -1,4 +1,1 @@
 pub mod MakeLaws
-pub mod StepLaws
-pub mod RunLaws
-pub mod AsSteps

@@ -8,7 +8,7 @@ use lib.ListN.{length}
 use lib.Seq.{sets}
 use lib.Dec.{ltb}
 use Rattle.walk.specs.Outcome.{Outcome, refused, answered}
-use Rattle.walk.specs.Refusals.{tableFull, textFull, domain}
+use Rattle.walk.specs.Refusals.{tableFull, textFull}
 use Rattle.entry_table.specs.Names.{lengthsOf, inside, allInside}
 use Rattle.entry_table.specs.Slots.{slotsIn, keyAt, infoAt, putAt, namesIn}
 use Rattle.entry_table.specs.Table.{Table, table, slotFor, Addition}
@@ -24,23 +24,14 @@ use Rattle.chain.specs.Settings.{depth}
 use Rattle.path_index.specs.Behind.{entryText, behind, textBehind}
 use Rattle.path_index.specs.declared.Behind.{Behind}
 use Rattle.path_index.specs.declared.Behind.the-variants as put
-use Rattle.rewind.specs.Entries.{forward}
-use Rattle.rewind.specs.Stepping.{Next, next, Step, stepWith}
-use Rattle.rewind.specs.Telling.{recordText, telling}
-use Rattle.rewind.specs.declared.entries.RecordEntry.{RecordEntry}
-use Rattle.rewind_steps.specs.Making.{making, madeOf, tableAfter, textAfter}
-use Rattle.rewind_steps.specs.declared.steps.Made.{Made}
-use Rattle.rewind_steps.specs.declared.steps.Made.the-variants.{To, Refused}
-
--- what a step that comes to o has to leave, from a table t, an index of m heads beside the words of nexts, and a text: its answer, the words of the
--- table, the heads, the nexts and the text
-abbrev pub Comes : List ℕ → List ℕ → ℕ → ℕ → List ℕ → List ℕ → Outcome (Next Step) → Table → Made → List ℕ → List ℕ → List ℕ → List ℕ → Type 0
-Comes journal image at m nexts text o t r f h n x =
-    (r ≡ madeOf journal image at o)
-    × ((f ≡ tableAfter o t .words)
-    × ((h ≡ headsOf m (tableAfter o t))
-    × ((n ≡ nextsOf m (tableAfter o t) nexts)
-    × (x ≡ textAfter journal image at o text))))
+use Rattle.rewind_records.specs.Entries.{forward}
+use Rattle.rewind_steps.specs.Taking.{Step, stepWith}
+use Rattle.rewind_steps.specs.Telling.{recordText, telling}
+use Rattle.rewind_records.specs.declared.entries.RecordEntry.{RecordEntry}
+use Rattle.rewind_steps.specs.Making.{making, tableAfter}
+use Rattle.rewind_steps.specs.Promise.{StepAsks, StepLeaves}
+use Rattle.rewind_steps.specs.declared.Made.{Made}
+use Rattle.rewind_steps.specs.declared.Made.the-variants.{To, Refused}
 
 -- the text of a record that the table has
 module _ (journal image : List ℕ) (u : Table) (parent : EntryKey) (name : NamePlace) (text : List ℕ) (at : ℕ) where
@@ -56,7 +47,7 @@ module _ (journal image : List ℕ) (u : Table) (parent : EntryKey) (name : Name
 
   module _ (m : ℕ) (nexts : List ℕ) (t : Table) {v : Behind} {y : List ℕ} (e : v ≡ behind text at more) (k : y ≡ textBehind text at more) where
     abbrev Tells : Made → List ℕ → List ℕ → List ℕ → List ℕ → Type 0
-    Tells = Comes journal image at m nexts text (telling journal image u parent name (length text - at)) t
+    Tells = StepLeaves journal image at m nexts text (telling journal image u parent name (length text - at)) t
 
     pub tell-to : {to : ℕ} {h n : List ℕ} → v ≡ put.To to → h ≡ headsOf m u → n ≡ nextsOf m u nexts → Tells (To to (u .used)) (u .words) h n y
     tell-to {to} {h} {n} g eh en = go (ltb (length text - at) (length more)) refl (sym e ∙ g) k
@@ -66,7 +57,15 @@ module _ (journal image : List ℕ) (u : Table) (parent : EntryKey) (name : Name
         go false l f w =
             let l′ : ltb (length text - at) (length (recordText journal image step)) ≡ false = rw (← same-text) l in
             let to-is : at + length more ≡ to = cc in
-            rw l′ (sym (rw (← same-text) (ap (λ (i : ℕ). To i (u .used)) to-is)), (refl, (eh, (en, (rw l at w) ∙ ap (sets text at) same-text))))
+            let is = rw l at w in
+            rw l′
+            (record {
+              answer = sym (rw (← same-text) (ap (λ (i : ℕ). To i (u .used)) to-is));
+              forward = refl;
+              heads-are = eh;
+              nexts-are = en;
+              text-is = is ∙ ap (sets text at) same-text;
+            })
 
     pub tell-full : {f h n : List ℕ} → v ≡ put.Full → f ≡ t .words → h ≡ headsOf m t → n ≡ nextsOf m t nexts → Tells (Refused textFull) f h n y
     tell-full {f} {h} {n} g ef eh en = go (ltb (length text - at) (length more)) refl (sym e ∙ g) k
@@ -74,18 +73,19 @@ module _ (journal image : List ℕ) (u : Table) (parent : EntryKey) (name : Name
         go : (b : Bool) → ltb (length text - at) (length more) ≡ b → behind text at more ≡ put.Full → y ≡ textBehind text at more → Tells (Refused textFull) f h n y
         go true l q w =
             let l′ : ltb (length text - at) (length (recordText journal image step)) ≡ true = rw (← same-text) l in
-            rw l′ (refl, (ef, (eh, (en, rw l at w))))
+            let is = rw l at w in
+            rw l′ (record { answer = refl; forward = ef; heads-are = eh; nexts-are = en; text-is = is })
         go false l q w = let z : _≡_ {A = ℕ} 0 1 = cc in absurd (omega arith)
 
 -- a step with the record that is next
 module _ (journal image : List ℕ) (t : Table) (e : RecordEntry) (text : List ℕ) (at : ℕ) (heads nexts : List ℕ) where
   abbrev Makes : Made → List ℕ → List ℕ → List ℕ → List ℕ → Type 0
-  Makes = Comes journal image at (length heads) nexts text (making journal image t e (length text - at)) t
+  Makes = StepLeaves journal image at (length heads) nexts text (making journal image t e (length text - at)) t
 
   module _ (fits : t .used ≤ slotsIn (t .words)) (index : Indexed t heads nexts) where
     -- nothing is changed where no slot is left
     full : {k : ℕ} → adding t (forward e ∷ []) ≡ refused k → Makes (Refused k) (t .words) heads nexts text
-    full g = rw g (refl, (refl, (index .0, (index .1, refl))))
+    full g = rw g (record { answer = refl; forward = refl; heads-are = index .0; nexts-are = index .1; text-is = refl })
 
     pub make-none : {slot : ℕ} → slot ≡ slotFor t (e .key) → slotsIn (t .words) ≤ slot → Makes (Refused tableFull) (t .words) heads nexts text
     make-none q h = full (slot-full t (forward e) fits (rw q at h))
@@ -137,15 +137,21 @@ module _ (journal image : List ℕ) (t : Table) (e : RecordEntry) (text : List �
         after-inside old own =
             rw (← w .leaves) at (names-added t a (w .room) (lengthsOf journal image) old (rw q own))
 
-        pub make-asks : {slot : ℕ} → slot < slotsIn (t .words) → (0 < length heads → slotsIn (t .words) ≤ length nexts)
-            → allInside (lengthsOf journal image) (namesIn (t .words) (t .used)) ≡ true → (length journal ≤ domain) × (length image ≤ domain)
-            → (inside (lengthsOf journal image) (e .info .name) ≡ true) × (at ≤ length text)
-            → ((k ≤ slotsIn s) × ((slot < slotsIn s) × (t .used ≤ slotsIn s)))
-            × ((Indexed (table s k) h n × (0 < length h → slotsIn s ≤ length n))
-            × ((allInside (lengthsOf journal image) (namesIn s k) ≡ true)
-            × (((length journal ≤ domain) × (length image ≤ domain))
-            × ((inside (lengthsOf journal image) (e .info .name) ≡ true) × (at ≤ length text)))))
-        make-asks g wide old within own = ((after-fits, (after-slot g, after-old)), ((after-index, after-nexts wide), (after-inside old (own .0), (within, own))))
+        pub make-asks : {slot : ℕ} → slot < slotsIn (t .words) → StepAsks journal image t heads nexts (e .info .name) at text
+            → StepAsks journal image (table s k) h n (e .info .name) at text × ((slot < slotsIn s) × (t .used ≤ slotsIn s))
+        make-asks g asks = (
+          record {
+            fits = after-fits;
+            index = after-index;
+            wide = after-nexts (asks .wide);
+            names = after-inside (asks .names) (asks .own);
+            near-journal = asks .near-journal;
+            near-image = asks .near-image;
+            own = asks .own;
+            room = asks .room;
+          },
+          (after-slot g, after-old),
+        )
 
         -- what stood in the slot leads back to the table
         back : {slot : ℕ} {key : EntryKey} {info : EntryInfo} → slot ≡ slotFor t (e .key) → key ≡ keyAt (t .words) slot → info ≡ infoAt (t .words) slot
@@ -156,11 +162,11 @@ module _ (journal image : List ℕ) (t : Table) (e : RecordEntry) (text : List �
 
         pub make-told : {slot : ℕ} {key : EntryKey} {info : EntryInfo} → slot ≡ slotFor t (e .key) → key ≡ keyAt (t .words) slot → info ≡ infoAt (t .words) slot
             → {r : Made} {f′ h′ n′ x′ : List ℕ}
-            → Comes journal image at (length h) n text (telling journal image (table s k) (e .info .parent) (e .info .name) (length text - at)) (table (putAt s slot key info) (t .used)) r f′ h′ n′ x′
+            → StepLeaves journal image at (length h) n text (telling journal image (table s k) (e .info .parent) (e .info .name) (length text - at)) (table (putAt s slot key info) (t .used)) r f′ h′ n′ x′
             → Makes r f′ h′ n′ x′
         make-told qs qk qi c =
             let o′ = telling journal image (table s k) (e .info .parent) (e .info .name) (length text - at) in
             let goes′ : adding t (forward e ∷ []) ≡ answered (table s k) = rw (← q) goes in
             let c′ = rw (back qs qk qi) at c in
-            let both = index-then (length heads) (table s k) nexts heads-are nexts-are {u = tableAfter o′ t} {o = answered (tableAfter o′ t)} refl (c′ .1 .1 .0) (c′ .1 .1 .1 .0) in
-            rw goes′ (c′ .0, (c′ .1 .0, (both .0, (both .1, c′ .1 .1 .1 .1))))
+            let both = index-then (length heads) (table s k) nexts heads-are nexts-are {u = tableAfter o′ t} {o = answered (tableAfter o′ t)} refl (c′ .heads-are) (c′ .nexts-are) in
+            rw goes′ (record { answer = c′ .answer; forward = c′ .forward; heads-are = both .0; nexts-are = both .1; text-is = c′ .text-is })

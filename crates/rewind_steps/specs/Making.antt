@@ -7,16 +7,12 @@ use Rattle.walk.specs.Outcome.{Outcome, refused, answered}
 use Rattle.entry_table.specs.Table.{Table}
 use Rattle.chain.specs.Settings.{depth}
 use Rattle.path.specs.Telling.{withText}
-use Rattle.rewind.specs.Stepping.{Next, ended, next, Step, taken}
-use Rattle.rewind.specs.Telling.{recordText, nextText}
-use Rattle.rewind.specs.declared.Rewind.{Rewind}
-use Rattle.rewind.specs.declared.entries.RecordEntry.{RecordEntry}
-use Rattle.rewind_steps.specs.declared.steps.Made.{Made}
-use Rattle.rewind_steps.specs.declared.steps.Made.the-variants.{To, End, Refused}
-
--- the state of a rewind by its two numbers
-abbrev pub stateOf : ℕ → ℕ → Rewind
-stateOf used position = record { used = used; position = position }
+use Rattle.rewind_records.specs.Turning.{Next, ended, next}
+use Rattle.rewind_steps.specs.Taking.{Step, taken}
+use Rattle.rewind_steps.specs.Telling.{recordText, nextText}
+use Rattle.rewind_records.specs.declared.entries.RecordEntry.{RecordEntry}
+use Rattle.rewind_steps.specs.declared.Made.{Made}
+use Rattle.rewind_steps.specs.declared.Made.the-variants.{To, End, Refused}
 
 -- a step with text where the next record is known and the tests have passed: 6, and then 8
 abbrev pub making : List ℕ → List ℕ → Table → RecordEntry → ℕ → Outcome (Next Step)

@@ -9,8 +9,11 @@ use Rattle.walk.specs.Outcome.{Outcome, refused, answered, mapOutcome}
 use Rattle.walk.proofs.ChoiceLaws.{cond-cases}
 use Rattle.chain.specs.declared.ResolvedPath.{ResolvedPath}
 use Rattle.path.specs.Telling.{withText}
-use Rattle.rewind.specs.Stepping.{Next, Step, stepped, rewindAfter, wordsAfter}
-use Rattle.rewind.specs.Telling.{told, nextText, toldAnswer, toldOutcome}
+use Rattle.rewind_records.specs.Turning.{Next}
+use Rattle.rewind_steps.specs.Taking.{Step}
+use Rattle.rewind.specs.Stepping.{stepped, rewindAfter, wordsAfter}
+use Rattle.rewind.specs.Telling.{told, toldAnswer, toldOutcome}
+use Rattle.rewind_steps.specs.Telling.{nextText}
 use Rattle.rewind.specs.declared.Rewind.{Rewind}
 use Rattle.rewind.specs.declared.NextPath.{NextPath}
 use Rattle.rewind.specs.declared.NextPath.the-variants.{Record, End, Refused}

@@ -10,7 +10,7 @@ use Rattle.walk.proofs.ListLaws.{sets-append}
 use Rattle.usn_answers.proofs.AnswerLaws.{One, Out, out-one, out-answered}
 use Rattle.chain.specs.declared.ResolvedPath.{ResolvedPath}
 use Rattle.rewind.specs.Starting.{startOutcome}
-use Rattle.rewind.specs.Stepping.{Next, ended, next}
+use Rattle.rewind_records.specs.Turning.{Next, ended, next}
 use Rattle.rewind.specs.Stepping.{outcome as stepOutcome}
 use Rattle.rewind.specs.Telling.{toldOutcome}
 use Rattle.rewind.specs.declared.Rewind.{Rewind}

@@ -1,7 +1,7 @@
 -- The answers of a rewind as words.
 use Prim.Native.Nat.{ℕ}
 use mathlib.Core.List.{List, [], _∷_, _++_}
-use Rattle.rewind.specs.Stepping.{Next, ended, next}
+use Rattle.rewind_records.specs.Turning.{Next, ended, next}
 use Rattle.rewind.specs.declared.Rewind.{Rewind}
 
 -- a state

@@ -6,7 +6,7 @@ use lib.ListN.{length}
 use Rattle.walk.specs.Lists.{listAfter}
 use Rattle.walk.specs.Outcome.{Outcome}
 use Rattle.walk.specs.Refusals.{listFull}
-use Rattle.usn_answers.specs.Answers.{number, withRoom}
+use Rattle.usn_answers.specs.Answers.{withRoom}
 use Rattle.usn_answers.specs.Journal.{countWords}
 use Rattle.usn_answers.proofs.AnswerLaws.{Out, out-same, out-mapped, room-few, room-enough}
 use Rattle.entry_table.specs.Table.{Table}
@@ -15,41 +15,29 @@ use Rattle.entry_table.specs.Storing.{outcome as storingOutcome}
 use Rattle.entry_table.specs.declared.Stored.{Stored}
 use Rattle.chain.specs.Chain.{Chain}
 use Rattle.chain.specs.Tracing.{chainAfter}
-use Rattle.volume_history.specs.Table.{usedWords}
-
--- what a call that stores has to show: its number, the table's words, and the word of the used slots
-abbrev pub Stores : Outcome Table → List ℕ → List ℕ → List ℕ → List ℕ → ℕ → Type 0
-Stores x s t l m r = (r ≡ number x) × ((t ≡ wordsAfter x s) × (m ≡ listAfter usedWords x l))
+use Rattle.volume_history.specs.Promise.{Stores, Traces, Tells}
 
 -- x is the outcome where the list takes the word
 module _ (x : Outcome Table) (s l : List ℕ) where
-  pub stores-short : length l < 1 → Stores (withRoom 1 (length l) x) s s l l listFull
-  stores-short h = let e = room-few x h in rw e (refl, (refl, refl))
+  pub stores-short : length l < 1 → Stores (withRoom 1 (length l) x) s l listFull s l
+  stores-short h = let e = room-few x h in rw e (record { answer = refl; table = refl; row = refl })
 
   pub stores-answered : 1 ≤ length l → (y : Stored) → storingOutcome y ≡ usedAfter x → {t m : List ℕ} {r : ℕ} → t ≡ wordsAfter x s
-      → Out countWords (storingOutcome y) l m r → Stores (withRoom 1 (length l) x) s t l m r
-  stores-answered h y e g o = let p = out-mapped x (out-same o e) in rw (room-enough x h) (p .answer, (g, p .list))
-
--- what a call that resolves a path has to show: its number, the chain list, and the words of its answer
-abbrev pub Traces : (Chain → List ℕ) → Outcome Chain → List ℕ → List ℕ → List ℕ → List ℕ → ℕ → Type 0
-Traces words x s t l m r = (r ≡ number x) × ((t ≡ chainAfter x s) × (m ≡ listAfter words x l))
-
--- and with its text
-abbrev pub Tells : (Chain → List ℕ) → (Chain → List ℕ) → Outcome Chain → List ℕ → List ℕ → List ℕ → List ℕ → List ℕ → List ℕ → ℕ → Type 0
-Tells text words x s t b d l m r = (r ≡ number x) × ((t ≡ chainAfter x s) × ((d ≡ listAfter text x b) × (m ≡ listAfter words x l)))
+      → Out countWords (storingOutcome y) l m r → Stores (withRoom 1 (length l) x) s l r t m
+  stores-answered h y e g o = let p = out-mapped x (out-same o e) in rw (room-enough x h) (record { answer = p .answer; table = g; row = p .list })
 
 -- x is the outcome where the list takes the n words
 module _ (words : Chain → List ℕ) (n : ℕ) (x : Outcome Chain) (s l : List ℕ) where
-  pub traces-short : length l < n → Traces words (withRoom n (length l) x) s s l l listFull
-  traces-short h = let e = room-few x h in rw e (refl, (refl, refl))
+  pub traces-short : length l < n → Traces words (withRoom n (length l) x) s l listFull s l
+  traces-short h = let e = room-few x h in rw e (record { answer = refl; places = refl; row = refl })
 
-  pub traces-answered : n ≤ length l → {t m : List ℕ} {r : ℕ} → t ≡ chainAfter x s → Out words x l m r → Traces words (withRoom n (length l) x) s t l m r
-  traces-answered h g o = rw (room-enough x h) (o .answer, (g, o .list))
+  pub traces-answered : n ≤ length l → {t m : List ℕ} {r : ℕ} → t ≡ chainAfter x s → Out words x l m r → Traces words (withRoom n (length l) x) s l r t m
+  traces-answered h g o = rw (room-enough x h) (record { answer = o .answer; places = g; row = o .list })
 
 module _ (text words : Chain → List ℕ) (n : ℕ) (x : Outcome Chain) (s b l : List ℕ) where
-  pub tells-short : length l < n → Tells text words (withRoom n (length l) x) s s b b l l listFull
-  tells-short h = let e = room-few x h in rw e (refl, (refl, (refl, refl)))
+  pub tells-short : length l < n → Tells text words (withRoom n (length l) x) s b l listFull s b l
+  tells-short h = let e = room-few x h in rw e (record { answer = refl; places = refl; written = refl; row = refl })
 
   pub tells-answered : n ≤ length l → {t d m : List ℕ} {r : ℕ} → t ≡ chainAfter x s → d ≡ listAfter text x b → Out words x l m r
-      → Tells text words (withRoom n (length l) x) s t b d l m r
-  tells-answered h g f o = rw (room-enough x h) (o .answer, (g, (f, o .list)))
+      → Tells text words (withRoom n (length l) x) s b l r t d m
+  tells-answered h g f o = rw (room-enough x h) (record { answer = o .answer; places = g; written = f; row = o .list })

@@ -3,3 +3,4 @@ pub mod Names
 pub mod Table
 pub mod Path
 pub mod Rewind
+pub mod Promise

@@ -7,7 +7,9 @@ use Rattle.usn_answers.specs.Answers.{withRoom}
 use Rattle.entry_table.specs.Table.{table}
 use Rattle.chain.specs.Chain.{resolved}
 use Rattle.rewind.specs.Starting.{Tables, started, begun}
-use Rattle.rewind.specs.Stepping.{Next, Step, stepped, rewindAfter}
+use Rattle.rewind_records.specs.Turning.{Next}
+use Rattle.rewind_steps.specs.Taking.{Step}
+use Rattle.rewind.specs.Stepping.{stepped, rewindAfter}
 use Rattle.rewind.specs.Telling.{told, toldOf}
 use Rattle.rewind.specs.declared.Rewind.{Rewind}
 use Rattle.volume_answers.specs.Path.{resolvedWords, toldWords}

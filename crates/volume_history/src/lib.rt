@@ -19,21 +19,14 @@ ghost use Rattle.walk.specs.Lists.{listAfter};
 ghost use Rattle.usn_answers.specs.Answers.{number};
 ghost use Rattle.usn_answers.specs.Journal.{countWords};
 ghost use Rattle.mft_carver.specs.Carve.{statsWords};
-ghost use Rattle.entry_table.specs.Storing.{wordsAfter};
-ghost use Rattle.chain.specs.Chain.{resolved};
-ghost use Rattle.chain.specs.Tracing.{chainAfter};
-ghost use Rattle.path.specs.Text.{placeText, placeLength, pathText};
-ghost use Rattle.path.specs.Telling.{told, place};
-ghost use Rattle.rewind.specs.Starting.{firstAfter, forwardAfter};
-ghost use Rattle.rewind.specs.Stepping.{wordsAfter as forwardWordsAfter};
-ghost use Rattle.rewind.specs.Stepping.{chainAfter as parentChainAfter};
-ghost use Rattle.rewind.specs.Telling.{nextText};
-ghost use Rattle.volume_answers.specs.Path.{resolvedWords, toldWords};
+ghost use Rattle.path.specs.Text.{placeText, placeLength};
+ghost use Rattle.path.specs.Telling.{place};
 ghost use Rattle.volume_history.specs.Image.{carveCall, carvedWords};
 ghost use Rattle.volume_history.specs.Names.{decodeCall, decodedBytes};
-ghost use Rattle.volume_history.specs.Path.{resolveCall, chainCall, placeCall};
-ghost use Rattle.volume_history.specs.Rewind.{rewindOf, startCall, startWords, stepWords, chainStepWords, pathStepWords, chainStepCall, pathStepCall};
-ghost use Rattle.volume_history.specs.Table.{keyOf, infoOf, insertCall, seedCall, usedWords};
+ghost use Rattle.volume_history.specs.Path.{placeCall};
+ghost use Rattle.volume_history.specs.Promise.{InsertCallPromise, SeedCallPromise, ChainCallPromise, ResolvePromise, StartCallPromise, NextChainCallPromise, NextCallPromise};
+ghost use Rattle.volume_history.specs.Rewind.{rewindOf};
+ghost use Rattle.volume_history.specs.Table.{keyOf, infoOf};
 use entry_table::EntryInfo;
 use entry_table::EntryKey;
 use entry_table::NamePlace;
@@ -106,15 +99,13 @@ pub extern "C" fn table_insert(
     length: u64,
     out: &mut [u64],
 ) -> u32
-    ensures { λ r. ⌜ r ≡ number (insertCall (now (journal .entry)) (now (image .entry)) (now (slots .entry)) used (keyOf entry sequence) (infoOf «parent_entry» «parent_sequence» source offset length) true (now (out .entry))) ⌝ }
-    ensures { λ _. ⌜ now (slots .exit) ≡ wordsAfter (insertCall (now (journal .entry)) (now (image .entry)) (now (slots .entry)) used (keyOf entry sequence) (infoOf «parent_entry» «parent_sequence» source offset length) true (now (out .entry))) (now (slots .entry)) ⌝ }
-    ensures { λ _. ⌜ now (out .exit) ≡ listAfter usedWords (insertCall (now (journal .entry)) (now (image .entry)) (now (slots .entry)) used (keyOf entry sequence) (infoOf «parent_entry» «parent_sequence» source offset length) true (now (out .entry))) (now (out .entry)) ⌝ }
+    ensures { λ r. ⌜ InsertCallPromise journal image slots used (keyOf entry sequence) (infoOf «parent_entry» «parent_sequence» source offset length) true out r ⌝ }
 {
     if out.len() < USED_WORDS {
         return LIST_FULL;
     }
     put_used(
-        entry_table::insert(
+        entry_index::insert(
             journal,
             image,
             slots,
@@ -142,15 +133,13 @@ pub extern "C" fn table_insert_if_absent(
     length: u64,
     out: &mut [u64],
 ) -> u32
-    ensures { λ r. ⌜ r ≡ number (insertCall (now (journal .entry)) (now (image .entry)) (now (slots .entry)) used (keyOf entry sequence) (infoOf «parent_entry» «parent_sequence» source offset length) false (now (out .entry))) ⌝ }
-    ensures { λ _. ⌜ now (slots .exit) ≡ wordsAfter (insertCall (now (journal .entry)) (now (image .entry)) (now (slots .entry)) used (keyOf entry sequence) (infoOf «parent_entry» «parent_sequence» source offset length) false (now (out .entry))) (now (slots .entry)) ⌝ }
-    ensures { λ _. ⌜ now (out .exit) ≡ listAfter usedWords (insertCall (now (journal .entry)) (now (image .entry)) (now (slots .entry)) used (keyOf entry sequence) (infoOf «parent_entry» «parent_sequence» source offset length) false (now (out .entry))) (now (out .entry)) ⌝ }
+    ensures { λ r. ⌜ InsertCallPromise journal image slots used (keyOf entry sequence) (infoOf «parent_entry» «parent_sequence» source offset length) false out r ⌝ }
 {
     if out.len() < USED_WORDS {
         return LIST_FULL;
     }
     put_used(
-        entry_table::insert_if_absent(
+        entry_index::insert_if_absent(
             journal,
             image,
             slots,
@@ -175,14 +164,12 @@ pub extern "C" fn table_seed(
     entries: &[u64],
     out: &mut [u64],
 ) -> u32
-    ensures { λ r. ⌜ r ≡ number (seedCall (now (journal .entry)) (now (image .entry)) (now (slots .entry)) used (now (entries .entry)) (now (out .entry))) ⌝ }
-    ensures { λ _. ⌜ now (slots .exit) ≡ wordsAfter (seedCall (now (journal .entry)) (now (image .entry)) (now (slots .entry)) used (now (entries .entry)) (now (out .entry))) (now (slots .entry)) ⌝ }
-    ensures { λ _. ⌜ now (out .exit) ≡ listAfter usedWords (seedCall (now (journal .entry)) (now (image .entry)) (now (slots .entry)) used (now (entries .entry)) (now (out .entry))) (now (out .entry)) ⌝ }
+    ensures { λ r. ⌜ SeedCallPromise journal image slots used entries out r ⌝ }
 {
     if out.len() < USED_WORDS {
         return LIST_FULL;
     }
-    put_used(entry_table::seed(journal, image, slots, used, entries), out)
+    put_used(entry_index::seed(journal, image, slots, used, entries), out)
 }
 
 // The path of a key, with its text in front of text. The places of its names go to the front of chain, the top one first, three
@@ -203,10 +190,7 @@ pub extern "C" fn path_resolve(
     text: &mut [u8],
     out: &mut [u64],
 ) -> u32
-    ensures { λ r. ⌜ r ≡ number (resolveCall (now (journal .entry)) (now (image .entry)) (now (slots .entry)) used (keyOf entry sequence) (now (text .entry)) (now (out .entry))) ⌝ }
-    ensures { λ _. ⌜ now (chain .exit) ≡ chainAfter (resolveCall (now (journal .entry)) (now (image .entry)) (now (slots .entry)) used (keyOf entry sequence) (now (text .entry)) (now (out .entry))) (now (chain .entry)) ⌝ }
-    ensures { λ _. ⌜ now (text .exit) ≡ listAfter (pathText (now (journal .entry)) (now (image .entry))) (resolveCall (now (journal .entry)) (now (image .entry)) (now (slots .entry)) used (keyOf entry sequence) (now (text .entry)) (now (out .entry))) (now (text .entry)) ⌝ }
-    ensures { λ _. ⌜ now (out .exit) ≡ listAfter (λ c. toldWords (told (now (journal .entry)) (now (image .entry)) c)) (resolveCall (now (journal .entry)) (now (image .entry)) (now (slots .entry)) used (keyOf entry sequence) (now (text .entry)) (now (out .entry))) (now (out .entry)) ⌝ }
+    ensures { λ r. ⌜ ResolvePromise journal image slots used (keyOf entry sequence) chain text out r ⌝ }
 {
     if out.len() < PATH_WORDS {
         return LIST_FULL;
@@ -238,9 +222,7 @@ pub extern "C" fn path_chain(
     chain: &mut [u64],
     out: &mut [u64],
 ) -> u32
-    ensures { λ r. ⌜ r ≡ number (chainCall (now (journal .entry)) (now (image .entry)) (now (slots .entry)) used (keyOf entry sequence) (now (out .entry))) ⌝ }
-    ensures { λ _. ⌜ now (chain .exit) ≡ chainAfter (chainCall (now (journal .entry)) (now (image .entry)) (now (slots .entry)) used (keyOf entry sequence) (now (out .entry))) (now (chain .entry)) ⌝ }
-    ensures { λ _. ⌜ now (out .exit) ≡ listAfter (λ c. resolvedWords (resolved c)) (chainCall (now (journal .entry)) (now (image .entry)) (now (slots .entry)) used (keyOf entry sequence) (now (out .entry))) (now (out .entry)) ⌝ }
+    ensures { λ r. ⌜ ChainCallPromise journal image slots used (keyOf entry sequence) chain out r ⌝ }
 {
     if out.len() < CHAIN_WORDS {
         return LIST_FULL;
@@ -302,10 +284,7 @@ pub extern "C" fn rewind_start(
     forward: &mut [u64],
     out: &mut [u64],
 ) -> u32
-    ensures { λ r. ⌜ r ≡ number (startCall (now (journal .entry)) (now (image .entry)) (now (records .entry)) (now (slots .entry)) used (now (forward .entry)) (now (out .entry))) ⌝ }
-    ensures { λ _. ⌜ now (slots .exit) ≡ firstAfter (startCall (now (journal .entry)) (now (image .entry)) (now (records .entry)) (now (slots .entry)) used (now (forward .entry)) (now (out .entry))) (now (slots .entry)) ⌝ }
-    ensures { λ _. ⌜ now (forward .exit) ≡ forwardAfter (startCall (now (journal .entry)) (now (image .entry)) (now (records .entry)) (now (slots .entry)) used (now (forward .entry)) (now (out .entry))) (now (forward .entry)) ⌝ }
-    ensures { λ _. ⌜ now (out .exit) ≡ listAfter startWords (startCall (now (journal .entry)) (now (image .entry)) (now (records .entry)) (now (slots .entry)) used (now (forward .entry)) (now (out .entry))) (now (out .entry)) ⌝ }
+    ensures { λ r. ⌜ StartCallPromise journal image records slots used forward out r ⌝ }
 {
     if out.len() < START_WORDS {
         return LIST_FULL;
@@ -336,11 +315,7 @@ pub extern "C" fn rewind_next(
     text: &mut [u8],
     out: &mut [u64],
 ) -> u32
-    ensures { λ r. ⌜ r ≡ number (pathStepCall (now (journal .entry)) (now (image .entry)) (now (records .entry)) (rewindOf used position) (now (forward .entry)) (now (text .entry)) (now (out .entry))) ⌝ }
-    ensures { λ _. ⌜ now (forward .exit) ≡ forwardWordsAfter (pathStepCall (now (journal .entry)) (now (image .entry)) (now (records .entry)) (rewindOf used position) (now (forward .entry)) (now (text .entry)) (now (out .entry))) (now (forward .entry)) ⌝ }
-    ensures { λ _. ⌜ now (chain .exit) ≡ parentChainAfter (pathStepCall (now (journal .entry)) (now (image .entry)) (now (records .entry)) (rewindOf used position) (now (forward .entry)) (now (text .entry)) (now (out .entry))) (now (chain .entry)) ⌝ }
-    ensures { λ _. ⌜ now (text .exit) ≡ listAfter (nextText (now (journal .entry)) (now (image .entry))) (pathStepCall (now (journal .entry)) (now (image .entry)) (now (records .entry)) (rewindOf used position) (now (forward .entry)) (now (text .entry)) (now (out .entry))) (now (text .entry)) ⌝ }
-    ensures { λ _. ⌜ now (out .exit) ≡ listAfter (stepWords (pathStepWords (now (journal .entry)) (now (image .entry))) (rewindOf used position)) (pathStepCall (now (journal .entry)) (now (image .entry)) (now (records .entry)) (rewindOf used position) (now (forward .entry)) (now (text .entry)) (now (out .entry))) (now (out .entry)) ⌝ }
+    ensures { λ r. ⌜ NextCallPromise journal image records (rewindOf used position) forward chain text out r ⌝ }
 {
     if out.len() < PATH_STEP_WORDS {
         return LIST_FULL;
@@ -372,10 +347,7 @@ pub extern "C" fn rewind_next_chain(
     chain: &mut [u64],
     out: &mut [u64],
 ) -> u32
-    ensures { λ r. ⌜ r ≡ number (chainStepCall (now (journal .entry)) (now (image .entry)) (now (records .entry)) (rewindOf used position) (now (forward .entry)) (now (out .entry))) ⌝ }
-    ensures { λ _. ⌜ now (forward .exit) ≡ forwardWordsAfter (chainStepCall (now (journal .entry)) (now (image .entry)) (now (records .entry)) (rewindOf used position) (now (forward .entry)) (now (out .entry))) (now (forward .entry)) ⌝ }
-    ensures { λ _. ⌜ now (chain .exit) ≡ parentChainAfter (chainStepCall (now (journal .entry)) (now (image .entry)) (now (records .entry)) (rewindOf used position) (now (forward .entry)) (now (out .entry))) (now (chain .entry)) ⌝ }
-    ensures { λ _. ⌜ now (out .exit) ≡ listAfter (stepWords chainStepWords (rewindOf used position)) (chainStepCall (now (journal .entry)) (now (image .entry)) (now (records .entry)) (rewindOf used position) (now (forward .entry)) (now (out .entry))) (now (out .entry)) ⌝ }
+    ensures { λ r. ⌜ NextChainCallPromise journal image records (rewindOf used position) forward chain out r ⌝ }
 {
     if out.len() < CHAIN_STEP_WORDS {
         return LIST_FULL;

@@ -5,8 +5,8 @@ use lib.ListN.{length}
 use Rattle.walk.specs.Outcome.{Outcome, answered}
 use Rattle.usn_answers.specs.Answers.{withRoom}
 use Rattle.rewind.specs.declared.Rewind.{Rewind}
-use Rattle.rewind_steps.specs.Running.{Run, ran, runAnswer}
-use Rattle.rewind_steps.specs.declared.RewindRun.{RewindRun}
+use Rattle.rewind_index.specs.Running.{Run, ran, runAnswer}
+use Rattle.rewind_index.specs.declared.RewindRun.{RewindRun}
 
 -- with lent words for the forward table, for the ends of the texts and for the answer; a run itself is never refused, and its answer tells the refusal of the
 -- step before which it stopped

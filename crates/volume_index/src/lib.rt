@@ -7,21 +7,11 @@
 //
 // Every function here is proved, and none has a `requires`.
 ghost use mathlib.Core.Path.{_≡_};
-ghost use Rattle.walk.specs.Outcome.{mapOutcome};
-ghost use Rattle.walk.specs.Lists.{listAfter};
-ghost use Rattle.usn_answers.specs.Answers.{number, unlessRefused};
-ghost use lib.ListN.{length};
-ghost use Rattle.entry_table.specs.Slots.{slotsIn};
-ghost use Rattle.entry_table.specs.Storing.{wordsAfter};
-ghost use Rattle.entry_index.specs.Index.{headsLeft, nextsLeft};
-ghost use Rattle.rewind.specs.Starting.{Tables, firstAfter, forwardAfter};
-ghost use Rattle.rewind_steps.specs.Running.{Run, ran};
-ghost use Rattle.rewind_index.specs.Indexing.{indexes, headsRun, nextsRun};
-ghost use Rattle.volume_history.specs.Table.{seedCall, usedWords};
-ghost use Rattle.volume_history.specs.Rewind.{rewindOf, startCall, startWords};
-ghost use Rattle.volume_index.specs.Calls.{rowOf, runCall, runWords};
+ghost use Rattle.volume_history.specs.Rewind.{rewindOf};
+ghost use Rattle.volume_index.specs.Calls.{rowOf};
+ghost use Rattle.volume_index.specs.Promise.{SeedIndexedCallPromise, StartIndexedCallPromise, RunCallPromise};
 use rewind::Rewind;
-use rewind_steps::RewindRun;
+use rewind_index::RewindRun;
 use volume_answers::answers::USED_WORDS;
 use volume_answers::answers::put_used;
 use volume_answers::rewinds::START_WORDS;
@@ -45,11 +35,7 @@ pub extern "C" fn table_seed_indexed(
     nexts: &mut [u64],
     out: &mut [u64],
 ) -> u32
-    ensures { λ r. ⌜ r ≡ number (seedCall (now (journal .entry)) (now (image .entry)) (now (slots .entry)) used (now (entries .entry)) (now (out .entry))) ⌝ }
-    ensures { λ _. ⌜ now (slots .exit) ≡ wordsAfter (seedCall (now (journal .entry)) (now (image .entry)) (now (slots .entry)) used (now (entries .entry)) (now (out .entry))) (now (slots .entry)) ⌝ }
-    ensures { λ _. ⌜ now (heads .exit) ≡ headsLeft (slotsIn (now (slots .entry))) (seedCall (now (journal .entry)) (now (image .entry)) (now (slots .entry)) used (now (entries .entry)) (now (out .entry))) (now (heads .entry)) (now (nexts .entry)) ⌝ }
-    ensures { λ _. ⌜ now (nexts .exit) ≡ nextsLeft (slotsIn (now (slots .entry))) (seedCall (now (journal .entry)) (now (image .entry)) (now (slots .entry)) used (now (entries .entry)) (now (out .entry))) (now (heads .entry)) (now (nexts .entry)) ⌝ }
-    ensures { λ _. ⌜ now (out .exit) ≡ listAfter usedWords (seedCall (now (journal .entry)) (now (image .entry)) (now (slots .entry)) used (now (entries .entry)) (now (out .entry))) (now (out .entry)) ⌝ }
+    ensures { λ r. ⌜ SeedIndexedCallPromise journal image slots used entries heads nexts out r ⌝ }
 {
     if out.len() < USED_WORDS {
         return LIST_FULL;
@@ -74,12 +60,7 @@ pub extern "C" fn rewind_start_indexed(
     nexts: &mut [u64],
     out: &mut [u64],
 ) -> u32
-    ensures { λ r. ⌜ r ≡ number (startCall (now (journal .entry)) (now (image .entry)) (now (records .entry)) (now (slots .entry)) used (now (forward .entry)) (now (out .entry))) ⌝ }
-    ensures { λ _. ⌜ now (slots .exit) ≡ firstAfter (startCall (now (journal .entry)) (now (image .entry)) (now (records .entry)) (now (slots .entry)) used (now (forward .entry)) (now (out .entry))) (now (slots .entry)) ⌝ }
-    ensures { λ _. ⌜ now (forward .exit) ≡ forwardAfter (startCall (now (journal .entry)) (now (image .entry)) (now (records .entry)) (now (slots .entry)) used (now (forward .entry)) (now (out .entry))) (now (forward .entry)) ⌝ }
-    ensures { λ _. ⌜ now (heads .exit) ≡ headsLeft (slotsIn (now (slots .entry))) (mapOutcome (λ (ts : Tables). ts .first) (startCall (now (journal .entry)) (now (image .entry)) (now (records .entry)) (now (slots .entry)) used (now (forward .entry)) (now (out .entry)))) (now (heads .entry)) (now (nexts .entry)) ⌝ }
-    ensures { λ _. ⌜ now (nexts .exit) ≡ nextsLeft (slotsIn (now (slots .entry))) (mapOutcome (λ (ts : Tables). ts .first) (startCall (now (journal .entry)) (now (image .entry)) (now (records .entry)) (now (slots .entry)) used (now (forward .entry)) (now (out .entry)))) (now (heads .entry)) (now (nexts .entry)) ⌝ }
-    ensures { λ _. ⌜ now (out .exit) ≡ listAfter startWords (startCall (now (journal .entry)) (now (image .entry)) (now (records .entry)) (now (slots .entry)) used (now (forward .entry)) (now (out .entry))) (now (out .entry)) ⌝ }
+    ensures { λ r. ⌜ StartIndexedCallPromise journal image records slots used forward heads nexts out r ⌝ }
 {
     if out.len() < START_WORDS {
         return LIST_FULL;
@@ -118,13 +99,7 @@ pub extern "C" fn rewind_run(
     text: &mut [u8],
     out: &mut [u64],
 ) -> u32
-    ensures { λ r. ⌜ r ≡ number (runCall (now (journal .entry)) (now (image .entry)) (now (records .entry)) (rewindOf used position) (now (forward .entry)) (now (ends .entry)) (now (text .entry)) (now (out .entry))) ⌝ }
-    ensures { λ _. ⌜ now (forward .exit) ≡ unlessRefused (runCall (now (journal .entry)) (now (image .entry)) (now (records .entry)) (rewindOf used position) (now (forward .entry)) (now (ends .entry)) (now (text .entry)) (now (out .entry))) (now (forward .entry)) (ran (now (journal .entry)) (now (image .entry)) (now (records .entry)) (now (forward .entry)) (rewindOf used position) (length (now (text .entry))) (length (now (ends .entry))) .words) ⌝ }
-    ensures { λ _. ⌜ now (heads .exit) ≡ unlessRefused (runCall (now (journal .entry)) (now (image .entry)) (now (records .entry)) (rewindOf used position) (now (forward .entry)) (now (ends .entry)) (now (text .entry)) (now (out .entry))) (now (heads .entry)) (headsRun (indexes (now (journal .entry)) (now (image .entry)) (now (records .entry)) (now (forward .entry)) (rewindOf used position) (length (now (ends .entry))) (now (heads .entry)) (now (nexts .entry))) (ran (now (journal .entry)) (now (image .entry)) (now (records .entry)) (now (forward .entry)) (rewindOf used position) (length (now (text .entry))) (length (now (ends .entry)))) (now (heads .entry))) ⌝ }
-    ensures { λ _. ⌜ now (nexts .exit) ≡ unlessRefused (runCall (now (journal .entry)) (now (image .entry)) (now (records .entry)) (rewindOf used position) (now (forward .entry)) (now (ends .entry)) (now (text .entry)) (now (out .entry))) (now (nexts .entry)) (nextsRun (indexes (now (journal .entry)) (now (image .entry)) (now (records .entry)) (now (forward .entry)) (rewindOf used position) (length (now (ends .entry))) (now (heads .entry)) (now (nexts .entry))) (ran (now (journal .entry)) (now (image .entry)) (now (records .entry)) (now (forward .entry)) (rewindOf used position) (length (now (text .entry))) (length (now (ends .entry)))) (now (heads .entry)) (now (nexts .entry))) ⌝ }
-    ensures { λ _. ⌜ now (ends .exit) ≡ listAfter (λ (x : Run). x .ends) (runCall (now (journal .entry)) (now (image .entry)) (now (records .entry)) (rewindOf used position) (now (forward .entry)) (now (ends .entry)) (now (text .entry)) (now (out .entry))) (now (ends .entry)) ⌝ }
-    ensures { λ _. ⌜ now (text .exit) ≡ listAfter (λ (x : Run). x .text) (runCall (now (journal .entry)) (now (image .entry)) (now (records .entry)) (rewindOf used position) (now (forward .entry)) (now (ends .entry)) (now (text .entry)) (now (out .entry))) (now (text .entry)) ⌝ }
-    ensures { λ _. ⌜ now (out .exit) ≡ listAfter runWords (runCall (now (journal .entry)) (now (image .entry)) (now (records .entry)) (rewindOf used position) (now (forward .entry)) (now (ends .entry)) (now (text .entry)) (now (out .entry))) (now (out .entry)) ⌝ }
+    ensures { λ r. ⌜ RunCallPromise journal image records (rewindOf used position) forward heads nexts ends text out r ⌝ }
 {
     if out.len() < RUN_WORDS {
         return LIST_FULL;

@@ -5,3 +5,4 @@ pub mod Lists
 pub mod Walk
 pub mod Agree
 pub mod Masked
+pub mod Lent

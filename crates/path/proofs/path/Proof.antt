@@ -27,7 +27,7 @@ path-length-requires c κs =
     (omega (arith, w .fits), (w .places, ((w .journal, w .image, omega arith), ap (λ (p : ResolvedPath). p .end) (w .path))))
 
 returns : tie.Need-returns
-returns c = path-full (c .before .before .before .before .before .before .before .before .before .before .before .args .journal .now) (c .before .before .before .before .before .before .before .before .before .before .before .args .image .now) _ _ _ _ _ (ap outcome (sym (c .before .before .before .path .given .1)) ∙ c .before .before .before .before .before .trace .ensures) (c .before .path-length .ensures .0) (c .if1 .taken)
+returns c = path-full _ _ _ _ _ _ (ap outcome (sym (c .before .before .before .path .given .1)) ∙ c .before .before .before .before .before .trace .ensures) (c .before .path-length .ensures .0) (c .if1 .taken)
 
 add-list-chain : tie.Need-add-list-chain
 add-list-chain c = search needs
@@ -46,7 +46,7 @@ put-path-requires c κs =
     (omega (arith, w .fits), (w .places, (ap (λ (p : ResolvedPath). p .end) (w .path), omega (arith, c .before .before .before .before .before .before .path-length .ensures .0, c .before .before .before .before .before .if1 .left))))
 
 returns-2 : tie.Need-returns-2
-returns-2 c = path-refused (c .before .before .before .before .before .before .before .before .before .args .journal .now) (c .before .before .before .before .before .before .before .before .before .args .image .now) _ _ _ _ _ (ap outcome (sym (c .before .n .given .1)) ∙ c .before .before .before .trace .ensures)
+returns-2 c = path-refused _ _ _ _ _ _ (ap outcome (sym (c .before .n .given .1)) ∙ c .before .before .before .trace .ensures)
 
 same-length : tie.Need-same-length
 same-length c = search needs
@@ -56,7 +56,7 @@ same-length-2 c = search needs
 
 returns-3 : tie.Need-returns-3
 returns-3 c =
-    path-told (c .before .before .before .before .before .before .before .before .before .before .before .before .before .before .before .before .before .before .before .args .journal .now) (c .before .before .before .before .before .before .before .before .before .before .before .before .before .before .before .before .before .before .before .args .image .now) _ _ _ _ _ (ap outcome (sym (c .before .before .before .before .before .before .before .before .before .before .before .path .given .1)) ∙ c .before .before .before .before .before .before .before .before .before .before .before .before .before .trace .ensures) (c .before .before .before .before .before .before .before .before .before .path-length .ensures .0) (c .before .before .before .before .before .before .before .before .if1 .left) (c .before .before .before .before .before .before .list-chain .ensures) (c .before .before .put-path .ensures)
+    path-told _ _ _ _ _ _ (ap outcome (sym (c .before .before .before .before .before .before .before .before .before .before .before .path .given .1)) ∙ c .before .before .before .before .before .before .before .before .before .before .before .before .before .trace .ensures) (c .before .before .before .before .before .before .before .before .before .path-length .ensures .0) (c .before .before .before .before .before .before .before .before .if1 .left) (c .before .before .before .before .before .before .list-chain .ensures) (c .before .before .put-path .ensures)
 
 pub path-spec : {M : Type 1} → statement M
 path-spec =

@@ -3,8 +3,8 @@ use mathlib.Core.Path.{ap}
 use native.Mathlib.Omega.{arith}
 use Rattle.entry_table.specs.Table.{table}
 use Rattle.path.proofs.NameLaws.{Sources}
-use Rattle.path_index.specs.declared.ways.Measured.{Measured}
-use Rattle.path_index.proofs.MeasureLaws.{measured-most}
+use Rattle.path.specs.declared.text.Measured.{Measured}
+use Rattle.path.proofs.MeasureLaws.{measured-most}
 use Rattle.path_index.proofs.BehindLaws.{counted, behind-full, behind-room, behind-put}
 use borrow.Author.Needs.{needs}
 use Rattle.path_index.proofs.put_counted.Statement.{statement}

@@ -2,7 +2,7 @@
 use mathlib.Core.Path.{ap, refl}
 use native.Mathlib.Omega.{arith}
 use Rattle.entry_table.specs.Storing.{outcome}
-use Rattle.rewind.proofs.EntryLaws.{added-forward}
+use Rattle.rewind_records.proofs.EntryLaws.{added-forward}
 use Rattle.rewind.proofs.StepLaws.{record-next, chain-refused, chain-ended, chain-full, after-fits, chain-taken}
 use borrow.Author.Needs.{needs}
 use Rattle.rewind.proofs.rewind_next_chain.Statement.{statement}
@@ -33,7 +33,7 @@ enum-known-used : tie.Need-enum-known-used
 enum-known-used c = search needs
 
 chain-of-requires : tie.Need-chain-of-requires
-chain-of-requires c κs = after-fits (c .before .before .before .before .before .before .before .before .before .before .before .before .before .before .before .before .before .before .before .before .before .args .journal .now) (c .before .before .before .before .before .before .before .before .before .before .before .before .before .before .before .before .before .before .before .before .before .args .image .now) (c .before .before .before .before .before .before .before .before .before .before .before .before .before .before .before .before .before .before .before .before .before .args .records .now) _ _ (c .before .before .before .before .before .before .before .before .before .before .before .before .before .before .next-record .ensures) (c .before .before .before .before .before .before .before .before .before .before .before .before .entry .given .1) (added-forward refl (c .before .before .before .before .before .before .before .before .before .replaces-forward .ensures)) (c .before .before .before .before .before .before .before .before .add .ensures .0) (c .before .before .before .before .before .before .before .before .add .ensures .1) (ap outcome (c .before .before .before .before .used .given .1))
+chain-of-requires c κs = after-fits (c .before .before .before .before .before .before .before .before .before .before .before .before .before .before .before .before .before .before .before .before .before .args .journal .now) (c .before .before .before .before .before .before .before .before .before .before .before .before .before .before .before .before .before .before .before .before .before .args .image .now) (c .before .before .before .before .before .before .before .before .before .before .before .before .before .before .before .before .before .before .before .before .before .args .records .now) _ _ (c .before .before .before .before .before .before .before .before .before .before .before .before .before .before .next-record .ensures) (c .before .before .before .before .before .before .before .before .before .before .before .before .entry .given .1) (added-forward refl (c .before .before .before .before .before .before .before .before .before .replaces-forward .ensures)) (c .before .before .before .before .before .before .before .before .add .ensures .answer) (c .before .before .before .before .before .before .before .before .add .ensures .slots-are) (ap outcome (c .before .before .before .before .used .given .1))
 
 add-t31 : tie.Need-add-t31
 add-t31 c = omega (arith, record-next (c .before .before .before .before .before .before .before .before .before .before .before .before .before .before .before .before .before .before .before .before .before .before .before .before .before .args .journal .now) (c .before .before .before .before .before .before .before .before .before .before .before .before .before .before .before .before .before .before .before .before .before .before .before .before .before .args .image .now) (c .before .before .before .before .before .before .before .before .before .before .before .before .before .before .before .before .before .before .before .before .before .before .before .before .before .args .records .now) _ _ (c .before .before .before .before .before .before .before .before .before .before .before .before .before .before .before .before .before .before .next-record .ensures) (c .before .before .before .before .before .before .before .before .before .before .before .before .before .before .before .before .entry .given .1) .near, c .before .before .before .before .before .before .before .before .before .before .before .before .before .before .before .before .before .before .before .before .before .before .before .before .before .good)
@@ -42,19 +42,19 @@ same-length : tie.Need-same-length
 same-length c = search needs
 
 returns : tie.Need-returns
-returns c = chain-refused (c .before .before .before .before .before .before .before .before .before .before .args .journal .now) (c .before .before .before .before .before .before .before .before .before .before .args .image .now) (c .before .before .before .before .before .before .before .before .before .before .args .records .now) _ _ (c .before .before .before .next-record .ensures) (c .before .n .given .1) _
+returns c = chain-refused _ _ _ _ _ (c .before .before .before .next-record .ensures) (c .before .n .given .1) _
 
 same-length-2 : tie.Need-same-length-2
 same-length-2 c = search needs
 
 returns-2 : tie.Need-returns-2
-returns-2 c = chain-ended (c .before .before .before .before .before .before .before .before .before .args .journal .now) (c .before .before .before .before .before .before .before .before .before .args .image .now) (c .before .before .before .before .before .before .before .before .before .args .records .now) _ _ (c .before .before .next-record .ensures) (c .enum-told .given .1) _
+returns-2 c = chain-ended _ _ _ _ _ (c .before .before .next-record .ensures) (c .enum-told .given .1) _
 
 same-length-3 : tie.Need-same-length-3
 same-length-3 c = search needs
 
 returns-3 : tie.Need-returns-3
-returns-3 c = chain-full (c .before .before .before .before .before .before .before .before .before .before .before .before .before .before .before .before .before .before .args .journal .now) (c .before .before .before .before .before .before .before .before .before .before .before .before .before .before .before .before .before .before .args .image .now) (c .before .before .before .before .before .before .before .before .before .before .before .before .before .before .before .before .before .before .args .records .now) _ _ (c .before .before .before .before .before .before .before .before .before .before .before .next-record .ensures) (c .before .before .before .before .before .before .before .before .before .entry .given .1) (added-forward refl (c .before .before .before .before .before .before .replaces-forward .ensures)) (c .before .before .before .before .before .add .ensures .0) (c .before .before .before .before .before .add .ensures .1) (ap outcome (c .before .n2 .given .1)) _
+returns-3 c = chain-full _ _ _ _ _ (c .before .before .before .before .before .before .before .before .before .before .before .next-record .ensures) (c .before .before .before .before .before .before .before .before .before .entry .given .1) (added-forward refl (c .before .before .before .before .before .before .replaces-forward .ensures)) (c .before .before .before .before .before .add .ensures .answer) (c .before .before .before .before .before .add .ensures .slots-are) (ap outcome (c .before .n2 .given .1)) _
 
 same-length-4 : tie.Need-same-length-4
 same-length-4 c = search needs
@@ -63,7 +63,7 @@ same-length-5 : tie.Need-same-length-5
 same-length-5 c = search needs
 
 returns-4 : tie.Need-returns-4
-returns-4 c = chain-taken (c .before .before .before .before .before .before .before .before .before .before .before .before .before .before .before .before .before .before .before .before .before .before .before .before .before .args .journal .now) (c .before .before .before .before .before .before .before .before .before .before .before .before .before .before .before .before .before .before .before .before .before .before .before .before .before .args .image .now) (c .before .before .before .before .before .before .before .before .before .before .before .before .before .before .before .before .before .before .before .before .before .before .before .before .before .args .records .now) _ _ (c .before .before .before .before .before .before .before .before .before .before .before .before .before .before .before .before .before .before .next-record .ensures) (c .before .before .before .before .before .before .before .before .before .before .before .before .before .before .before .before .entry .given .1) (added-forward refl (c .before .before .before .before .before .before .before .before .before .before .before .before .before .replaces-forward .ensures)) (c .before .before .before .before .before .before .before .before .before .before .before .before .add .ensures .0) (c .before .before .before .before .before .before .before .before .before .before .before .before .add .ensures .1) (ap outcome (c .before .before .before .before .before .before .before .before .used .given .1)) _ (c .before .before .before .chain-of .ensures .0) (c .before .before .before .chain-of .ensures .1)
+returns-4 c = chain-taken _ _ _ _ _ (c .before .before .before .before .before .before .before .before .before .before .before .before .before .before .before .before .before .before .next-record .ensures) (c .before .before .before .before .before .before .before .before .before .before .before .before .before .before .before .before .entry .given .1) (added-forward refl (c .before .before .before .before .before .before .before .before .before .before .before .before .before .replaces-forward .ensures)) (c .before .before .before .before .before .before .before .before .before .before .before .before .add .ensures .answer) (c .before .before .before .before .before .before .before .before .before .before .before .before .add .ensures .slots-are) (ap outcome (c .before .before .before .before .before .before .before .before .used .given .1)) _ (c .before .before .before .chain-of .ensures .0) (c .before .before .before .chain-of .ensures .1)
 
 pub rewind-next-chain-spec : {M : Type 1} → statement M
 rewind-next-chain-spec =

@@ -57,25 +57,25 @@ same-length : tie.Need-same-length
 same-length c = search needs
 
 returns : tie.Need-returns
-returns c = left-record (c .before .before .before .before .before .before .before .before .before .before .before .before .before .before .before .before .before .before .before .before .args .journal .now) [] (c .before .before .before .before .before .before .before .before .before .before .before .before .before .before .before .before .before .before .before .before .args .records .now) (c .before .before .before .before .before .before .before .before .before .before .before .before .before .before .before .before .before .before .before .before .args .forward .now) (c .before .before .before .before .before .before .before .before .before .before .before .before .before .before .before .before .before .before .before .before .args .rewind) _ (c .before .before .before .before .before .before .before .before .before .before .before .rewind-next .result .next) (c .before .before .before .before .before .before .before .before .before .before .before .rewind-next .ensures .0) (c .before .before .before .before .before .before .before .before .before .before .before .rewind-next .ensures .1 .0) (c .before .before .before .before .before .before .before .before .before .before .before .rewind-next .ensures .1 .1 .0) (c .before .before .before .before .before .next .given .1)
+returns c = left-record (c .before .before .before .before .before .before .before .before .before .before .before .before .before .before .before .before .before .before .before .before .args .journal .now) [] (c .before .before .before .before .before .before .before .before .before .before .before .before .before .before .before .before .before .before .before .before .args .records .now) (c .before .before .before .before .before .before .before .before .before .before .before .before .before .before .before .before .before .before .before .before .args .forward .now) (c .before .before .before .before .before .before .before .before .before .before .before .before .before .before .before .before .before .before .before .before .args .rewind) _ (c .before .before .before .before .before .before .before .before .before .before .before .rewind-next .result .next) (c .before .before .before .before .before .before .before .before .before .before .before .rewind-next .ensures .answer) (c .before .before .before .before .before .before .before .before .before .before .before .rewind-next .ensures .state) (c .before .before .before .before .before .before .before .before .before .before .before .rewind-next .ensures .forward) (c .before .before .before .before .before .next .given .1)
 
 same-length-2 : tie.Need-same-length-2
 same-length-2 c = search needs
 
 returns-2 : tie.Need-returns-2
-returns-2 c = left-end (c .before .before .before .before .before .before .before .before .before .before .before .before .before .before .before .before .args .journal .now) [] (c .before .before .before .before .before .before .before .before .before .before .before .before .before .before .before .before .args .records .now) (c .before .before .before .before .before .before .before .before .before .before .before .before .before .before .before .before .args .forward .now) (c .before .before .before .before .before .before .before .before .before .before .before .before .before .before .before .before .args .rewind) _ (c .before .before .before .before .before .before .before .rewind-next .result .next) (c .before .before .before .before .before .before .before .rewind-next .ensures .0) (c .before .before .before .before .before .before .before .rewind-next .ensures .1 .0) (c .before .before .before .before .before .before .before .rewind-next .ensures .1 .1 .0) (c .before .enum-told .given .1)
+returns-2 c = left-end (c .before .before .before .before .before .before .before .before .before .before .before .before .before .before .before .before .args .journal .now) [] (c .before .before .before .before .before .before .before .before .before .before .before .before .before .before .before .before .args .records .now) (c .before .before .before .before .before .before .before .before .before .before .before .before .before .before .before .before .args .forward .now) (c .before .before .before .before .before .before .before .before .before .before .before .before .before .before .before .before .args .rewind) _ (c .before .before .before .before .before .before .before .rewind-next .result .next) (c .before .before .before .before .before .before .before .rewind-next .ensures .answer) (c .before .before .before .before .before .before .before .rewind-next .ensures .state) (c .before .before .before .before .before .before .before .rewind-next .ensures .forward) (c .before .enum-told .given .1)
 
 same-length-3 : tie.Need-same-length-3
 same-length-3 c = search needs
 
 returns-3 : tie.Need-returns-3
-returns-3 c = left-full (c .before .before .before .before .before .before .before .before .before .before .before .before .before .before .before .before .before .before .before .before .before .before .before .before .before .before .before .args .journal .now) [] (c .before .before .before .before .before .before .before .before .before .before .before .before .before .before .before .before .before .before .before .before .before .before .before .before .before .before .before .args .records .now) (c .before .before .before .before .before .before .before .before .before .before .before .before .before .before .before .before .before .before .before .before .before .before .before .before .before .before .before .args .forward .now) (c .before .before .before .before .before .before .before .before .before .before .before .before .before .before .before .before .before .before .before .before .before .before .before .before .before .before .before .args .rewind) _ (c .before .before .before .before .before .before .before .before .before .before .before .before .before .before .before .before .before .before .rewind-next .result .next) (c .before .before .before .before .before .before .before .before .before .before .before .before .before .before .before .before .before .before .rewind-next .ensures .0) (c .before .before .before .before .before .before .before .before .before .before .before .before .next2 .given .1) (c .before .before .before .before .before .before .before .before .before .before .if1 .taken) (c .before .before .before .before .before .before .before .before .before .before .before .before .before .before .before .before .before .before .rewind-next .ensures .1 .1 .0) (c .before .before .before .before .rewind-next-chain .ensures .1 .0) (c .before .before .before .before .rewind-next-chain .ensures .1 .1 .0)
+returns-3 c = left-full (c .before .before .before .before .before .before .before .before .before .before .before .before .before .before .before .before .before .before .before .before .before .before .before .before .before .before .before .args .journal .now) [] (c .before .before .before .before .before .before .before .before .before .before .before .before .before .before .before .before .before .before .before .before .before .before .before .before .before .before .before .args .records .now) (c .before .before .before .before .before .before .before .before .before .before .before .before .before .before .before .before .before .before .before .before .before .before .before .before .before .before .before .args .forward .now) (c .before .before .before .before .before .before .before .before .before .before .before .before .before .before .before .before .before .before .before .before .before .before .before .before .before .before .before .args .rewind) _ (c .before .before .before .before .before .before .before .before .before .before .before .before .before .before .before .before .before .before .rewind-next .result .next) (c .before .before .before .before .before .before .before .before .before .before .before .before .before .before .before .before .before .before .rewind-next .ensures .answer) (c .before .before .before .before .before .before .before .before .before .before .before .before .next2 .given .1) (c .before .before .before .before .before .before .before .before .before .before .if1 .taken) (c .before .before .before .before .before .before .before .before .before .before .before .before .before .before .before .before .before .before .rewind-next .ensures .forward) (c .before .before .before .before .rewind-next-chain .ensures .state) (c .before .before .before .before .rewind-next-chain .ensures .forward)
 
 same-length-4 : tie.Need-same-length-4
 same-length-4 c = search needs
 
 returns-4 : tie.Need-returns-4
-returns-4 c = left-refused (c .before .before .before .before .before .before .before .before .before .before .before .before .before .before .before .before .before .before .before .args .journal .now) [] (c .before .before .before .before .before .before .before .before .before .before .before .before .before .before .before .before .before .before .before .args .records .now) (c .before .before .before .before .before .before .before .before .before .before .before .before .before .before .before .before .before .before .before .args .forward .now) (c .before .before .before .before .before .before .before .before .before .before .before .before .before .before .before .before .before .before .before .args .rewind) _ (c .before .before .before .before .before .before .before .before .before .before .rewind-next .result .next) (c .before .before .before .before .before .before .before .before .before .before .rewind-next .ensures .0) (c .before .before .before .before .before .before .before .before .before .before .rewind-next .ensures .1 .0) (c .before .before .before .before .before .before .before .before .before .before .rewind-next .ensures .1 .1 .0) (c .before .before .before .before .next2 .given .1) (c .before .before .if1 .left)
+returns-4 c = left-refused (c .before .before .before .before .before .before .before .before .before .before .before .before .before .before .before .before .before .before .before .args .journal .now) [] (c .before .before .before .before .before .before .before .before .before .before .before .before .before .before .before .before .before .before .before .args .records .now) (c .before .before .before .before .before .before .before .before .before .before .before .before .before .before .before .before .before .before .before .args .forward .now) (c .before .before .before .before .before .before .before .before .before .before .before .before .before .before .before .before .before .before .before .args .rewind) _ (c .before .before .before .before .before .before .before .before .before .before .rewind-next .result .next) (c .before .before .before .before .before .before .before .before .before .before .rewind-next .ensures .answer) (c .before .before .before .before .before .before .before .before .before .before .rewind-next .ensures .state) (c .before .before .before .before .before .before .before .before .before .before .rewind-next .ensures .forward) (c .before .before .before .before .next2 .given .1) (c .before .before .if1 .left)
 
 pub write-path-spec : {M : Type 1} → statement M
 write-path-spec =

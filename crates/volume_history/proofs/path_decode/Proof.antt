@@ -21,7 +21,7 @@ same-length-2 : tie.Need-same-length-2
 same-length-2 c = search needs
 
 returns-2 : tie.Need-returns-2
-returns-2 c = both-answered _ _ _ _ _ (now (c .before .before .before .before .before .before .before .before .before .before .before .before .before .args .out)) (c .before .before .before .before .before .before .before .before .if1 .left) (c .before .before .before .before .before .before .decode .ensures .1) (out-mapped _ (out-same (record { answer = c .before .before .put-length .ensures .0; list = c .before .before .put-length .ensures .1 }) (c .before .before .before .before .before .before .decode .ensures .0)))
+returns-2 c = both-answered _ _ _ _ _ (now (c .before .before .before .before .before .before .before .before .before .before .before .before .before .args .out)) (c .before .before .before .before .before .before .before .before .if1 .left) (c .before .before .before .before .before .before .decode .ensures .written) (out-mapped _ (out-same (record { answer = c .before .before .put-length .ensures .0; list = c .before .before .put-length .ensures .1 }) (c .before .before .before .before .before .before .decode .ensures .answer)))
 
 pub path-decode-spec : {M : Type 1} → statement M
 path-decode-spec =

@@ -1,5 +1,4 @@
 -- Too few words are refused first; otherwise the path's equations say what goes out.
-use denote.Ref.{now}
 use Rattle.usn_answers.proofs.AnswerLaws.{out-same, out-mapped}
 use Rattle.volume_history.proofs.CallLaws.{tells-short, tells-answered}
 use borrow.Author.Needs.{needs}
@@ -7,7 +6,7 @@ use Rattle.volume_history.proofs.path_resolve.Statement.{statement}
 use Rattle.volume_history.proofs.path_resolve.Tie as tie
 
 returns : tie.Need-returns
-returns c = tells-short _ _ _ _ _ _ (now (c .before .before .before .before .before .before .before .args .out)) (c .if1 .taken)
+returns c = tells-short _ _ _ _ _ _ _ (c .if1 .taken)
 
 path-requires : tie.Need-path-requires
 path-requires c κs = search needs
@@ -25,7 +24,7 @@ same-length-3 : tie.Need-same-length-3
 same-length-3 c = search needs
 
 returns-2 : tie.Need-returns-2
-returns-2 c = tells-answered _ _ _ _ _ _ (now (c .before .before .before .before .before .before .before .before .before .before .before .before .before .before .before .before .before .before .args .out)) (c .before .before .before .before .before .before .before .before .before .before .before .if1 .left) (c .before .before .before .before .before .before .before .before .path .ensures .1 .0) (c .before .before .before .before .before .before .before .before .path .ensures .1 .1) (out-mapped _ (out-same (record { answer = c .before .before .put-path .ensures .0; list = c .before .before .put-path .ensures .1 }) (c .before .before .before .before .before .before .before .before .path .ensures .0)))
+returns-2 c = tells-answered _ _ _ _ _ _ _ (c .before .before .before .before .before .before .before .before .before .before .before .if1 .left) (c .before .before .before .before .before .before .before .before .path .ensures .places) (c .before .before .before .before .before .before .before .before .path .ensures .written) (out-mapped _ (out-same (record { answer = c .before .before .put-path .ensures .0; list = c .before .before .put-path .ensures .1 }) (c .before .before .before .before .before .before .before .before .path .ensures .answer)))
 
 pub path-resolve-spec : {M : Type 1} → statement M
 path-resolve-spec =

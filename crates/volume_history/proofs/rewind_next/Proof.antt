@@ -1,12 +1,11 @@
 -- Too few words are refused first; otherwise the step's equations say what goes out.
-use denote.Ref.{now}
 use Rattle.volume_history.proofs.RewindLaws.{step-out, steps-told-short, steps-told-answered}
 use borrow.Author.Needs.{needs}
 use Rattle.volume_history.proofs.rewind_next.Statement.{statement}
 use Rattle.volume_history.proofs.rewind_next.Tie as tie
 
 returns : tie.Need-returns
-returns c = steps-told-short _ _ _ _ _ _ _ (now (c .before .before .before .before .before .before .before .before .args .out)) (c .if1 .taken)
+returns c = steps-told-short _ _ _ _ _ _ _ _ (c .if1 .taken)
 
 rewind-next-requires : tie.Need-rewind-next-requires
 rewind-next-requires c κs = search needs
@@ -27,7 +26,7 @@ same-length-4 : tie.Need-same-length-4
 same-length-4 c = search needs
 
 returns-2 : tie.Need-returns-2
-returns-2 c = steps-told-answered _ _ _ _ _ _ _ (now (c .before .before .before .before .before .before .before .before .before .before .before .before .before .before .before .before .before .before .before .before .before .before .args .out)) (c .before .before .before .before .before .before .before .before .before .before .before .before .before .before .if1 .left) (c .before .before .before .before .before .before .before .before .before .before .rewind-next .ensures .1 .1 .0) (c .before .before .before .before .before .before .before .before .before .before .rewind-next .ensures .1 .1 .1 .0) (c .before .before .before .before .before .before .before .before .before .before .rewind-next .ensures .1 .1 .1 .1) (step-out _ _ (c .before .before .before .before .before .before .before .before .before .before .rewind-next .ensures .0) (c .before .before .before .before .before .before .before .before .before .before .rewind-next .ensures .1 .0) (record { answer = c .before .before .put-path-step .ensures .0; list = c .before .before .put-path-step .ensures .1 }))
+returns-2 c = steps-told-answered _ _ _ _ _ _ _ _ (c .before .before .before .before .before .before .before .before .before .before .before .before .before .before .if1 .left) (c .before .before .before .before .before .before .before .before .before .before .rewind-next .ensures .forward) (c .before .before .before .before .before .before .before .before .before .before .rewind-next .ensures .places) (c .before .before .before .before .before .before .before .before .before .before .rewind-next .ensures .written) (step-out _ _ (c .before .before .before .before .before .before .before .before .before .before .rewind-next .ensures .answer) (c .before .before .before .before .before .before .before .before .before .before .rewind-next .ensures .state) (record { answer = c .before .before .put-path-step .ensures .0; list = c .before .before .put-path-step .ensures .1 }))
 
 pub rewind-next-spec : {M : Type 1} → statement M
 rewind-next-spec =

@@ -24,7 +24,7 @@ same-length-3 : tie.Need-same-length-3
 same-length-3 c = search needs
 
 returns-2 : tie.Need-returns-2
-returns-2 c = steps-answered _ _ _ _ _ (now (c .before .before .before .before .before .before .before .before .before .before .before .before .before .before .before .before .before .before .args .out)) (c .before .before .before .before .before .before .before .before .before .before .before .if1 .left) (c .before .before .before .before .before .before .before .before .rewind-next-chain .ensures .1 .1 .0) (c .before .before .before .before .before .before .before .before .rewind-next-chain .ensures .1 .1 .1) (step-out _ _ (c .before .before .before .before .before .before .before .before .rewind-next-chain .ensures .0) (c .before .before .before .before .before .before .before .before .rewind-next-chain .ensures .1 .0) (record { answer = c .before .before .put-chain-step .ensures .0; list = c .before .before .put-chain-step .ensures .1 }))
+returns-2 c = steps-answered _ _ _ _ _ (now (c .before .before .before .before .before .before .before .before .before .before .before .before .before .before .before .before .before .before .args .out)) (c .before .before .before .before .before .before .before .before .before .before .before .if1 .left) (c .before .before .before .before .before .before .before .before .rewind-next-chain .ensures .forward) (c .before .before .before .before .before .before .before .before .rewind-next-chain .ensures .places) (step-out _ _ (c .before .before .before .before .before .before .before .before .rewind-next-chain .ensures .answer) (c .before .before .before .before .before .before .before .before .rewind-next-chain .ensures .state) (record { answer = c .before .before .put-chain-step .ensures .0; list = c .before .before .put-chain-step .ensures .1 }))
 
 pub rewind-next-chain-spec : {M : Type 1} → statement M
 rewind-next-chain-spec =

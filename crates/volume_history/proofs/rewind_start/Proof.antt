@@ -25,7 +25,7 @@ same-length-3 : tie.Need-same-length-3
 same-length-3 c = search needs
 
 returns-2 : tie.Need-returns-2
-returns-2 c = starts-answered _ _ _ (now (c .before .before .before .before .before .before .before .before .before .before .before .before .before .before .before .before .before .before .args .out)) (c .before .before .before .before .before .before .before .before .before .before .before .if1 .left) (c .before .before .before .before .before .before .before .before .rewind-start .ensures .1 .0) (c .before .before .before .before .before .before .before .before .rewind-start .ensures .1 .1) (out-mapped _ (out-same (record { answer = c .before .before .put-start .ensures .0; list = c .before .before .put-start .ensures .1 }) (c .before .before .before .before .before .before .before .before .rewind-start .ensures .0)))
+returns-2 c = starts-answered _ _ _ (now (c .before .before .before .before .before .before .before .before .before .before .before .before .before .before .before .before .before .before .args .out)) (c .before .before .before .before .before .before .before .before .before .before .before .if1 .left) (c .before .before .before .before .before .before .before .before .rewind-start .ensures .first) (c .before .before .before .before .before .before .before .before .rewind-start .ensures .forward) (out-mapped _ (out-same (record { answer = c .before .before .put-start .ensures .0; list = c .before .before .put-start .ensures .1 }) (c .before .before .before .before .before .before .before .before .rewind-start .ensures .answer)))
 
 pub rewind-start-spec : {M : Type 1} → statement M
 rewind-start-spec =

@@ -1,12 +1,11 @@
 -- Too few words are refused; otherwise the run's equations say what goes out.
-use denote.Ref.{now}
 use Rattle.volume_index.proofs.CallLaws.{runs-short, runs-answered}
 use borrow.Author.Needs.{needs}
 use Rattle.volume_index.proofs.rewind_run.Statement.{statement}
 use Rattle.volume_index.proofs.rewind_run.Tie as tie
 
 returns : tie.Need-returns
-returns c = runs-short _ _ _ _ _ _ (now (c .before .before .before .before .before .before .before .before .before .before .args .out)) _ _ _ (c .if1 .taken)
+returns c = runs-short _ _ _ _ _ _ _ _ _ _ (c .if1 .taken)
 
 rewind-run-requires : tie.Need-rewind-run-requires
 rewind-run-requires c κs = search needs
@@ -39,7 +38,7 @@ same-length-6 : tie.Need-same-length-6
 same-length-6 c = search needs
 
 returns-2 : tie.Need-returns-2
-returns-2 c = runs-answered _ _ _ _ _ _ (now (c .before .before .before .before .before .before .before .before .before .before .before .before .before .before .before .before .before .before .before .before .before .before .before .before .before .before .before .before .before .before .before .before .args .out)) _ _ _ (c .before .before .before .before .before .before .before .before .before .before .before .before .before .before .before .before .before .before .before .before .before .before .if1 .left) (c .before .before .before .before .before .before .before .before .before .before .before .before .before .before .before .before .rewind-run .ensures .0) (c .before .before .before .before .before .before .before .before .before .before .before .before .before .before .before .before .rewind-run .ensures .1 .0) (c .before .before .before .before .before .before .before .before .before .before .before .before .before .before .before .before .rewind-run .ensures .1 .1 .0) (c .before .before .before .before .before .before .before .before .before .before .before .before .before .before .before .before .rewind-run .ensures .1 .1 .1 .0) (c .before .before .before .before .before .before .before .before .before .before .before .before .before .before .before .before .rewind-run .ensures .1 .1 .1 .1 .0) (c .before .before .before .before .before .before .before .before .before .before .before .before .before .before .before .before .rewind-run .ensures .1 .1 .1 .1 .1) (c .before .before .before .before .before .run-row .ensures) (c .before .before .put-words .ensures)
+returns-2 c = runs-answered _ _ _ _ _ _ _ _ _ _ (c .before .before .before .before .before .before .before .before .before .before .before .before .before .before .before .before .before .before .before .before .before .before .if1 .left) (c .before .before .before .before .before .before .before .before .before .before .before .before .before .before .before .before .rewind-run .ensures) (c .before .before .before .before .before .run-row .ensures) (c .before .before .put-words .ensures)
 
 pub rewind-run-spec : {M : Type 1} → statement M
 rewind-run-spec =

@@ -34,13 +34,13 @@ same-length : tie.Need-same-length
 same-length c = search needs
 
 returns : tie.Need-returns
-returns c = inserts _ _ _ _ (c .before .before .before .before .before .before .before .before .before .key-of .ensures) (c .before .before .before .before .before .before .before .before .info-of .ensures) (c .before .before .before .before .before .before .before .add .ensures .0) (c .before .before .before .before .before .before .before .add .ensures .1) (ap outcome (c .before .before .before .n .given .1)) (c .to-add .ensures)
+returns c = inserts _ _ _ _ (c .before .before .before .before .before .before .before .before .before .key-of .ensures) (c .before .before .before .before .before .before .before .before .info-of .ensures) (c .before .before .before .before .before .before .before .add .ensures .answer) (c .before .before .before .before .before .before .before .add .ensures .slots-are) (ap outcome (c .before .before .before .n .given .1)) (c .to-add .ensures)
 
 same-length-2 : tie.Need-same-length-2
 same-length-2 c = search needs
 
 returns-2 : tie.Need-returns-2
-returns-2 c = inserts _ _ _ _ (c .before .before .before .before .before .before .before .before .key-of .ensures) (c .before .before .before .before .before .before .before .info-of .ensures) (c .before .before .before .before .before .before .add .ensures .0) (c .before .before .before .before .before .before .add .ensures .1) (ap outcome (c .before .before .n2 .given .1)) (c .to-end .ensures)
+returns-2 c = inserts _ _ _ _ (c .before .before .before .before .before .before .before .before .key-of .ensures) (c .before .before .before .before .before .before .before .info-of .ensures) (c .before .before .before .before .before .before .add .ensures .answer) (c .before .before .before .before .before .before .add .ensures .slots-are) (ap outcome (c .before .before .n2 .given .1)) (c .to-end .ensures)
 
 pub insert-spec : {M : Type 1} → statement M
 insert-spec =

@@ -6,7 +6,7 @@ use Rattle.entry_table.specs.Table.{table}
 use Rattle.entry_table.specs.Storing.{outcome}
 use Rattle.entry_table.specs.Carved.{carvedAt}
 use Rattle.entry_table.proofs.AdditionLaws.{rows-start, rows-refused, rows-added-all, same-addition}
-use Rattle.entry_index.proofs.AddLaws.{comes-indexed}
+use Rattle.entry_index.proofs.AddLaws.{stores-by}
 use Rattle.entry_index.proofs.SeedLaws.{Keeping, keeping-heads, keeping-nexts, keeping-index, keeping-next}
 use borrow.Author.Needs.{needs}
 use borrow.Author.Needs.{needs}
@@ -38,16 +38,16 @@ enum-known-n-2 : tie.Need-enum-known-n-2 Inv-loop μ-loop
 enum-known-n-2 c = search needs
 
 same-length : tie.Need-same-length Inv-loop μ-loop
-same-length c = absurd (rows-refused (c .before .before .before .before .before .before .before .before .before .before .before .before .before .before .before .before .loop .inv .made) (c .before .before .before .before .before .before .before .before .before .before .before .before .before .before .before .loop-test .taken) (same-addition (c .before .before .before .before .before .before .before .before .before .before .before .before .before .before .carved-key .ensures) (c .before .before .before .before .before .before .before .before .before .before .before .before .before .carved-info .ensures) refl) (c .before .before .before .before .before .before .before .before .before .add .ensures .0) (ap outcome (c .before .n2 .given .1)))
+same-length c = absurd (rows-refused (c .before .before .before .before .before .before .before .before .before .before .before .before .before .before .before .before .loop .inv .made) (c .before .before .before .before .before .before .before .before .before .before .before .before .before .before .before .loop-test .taken) (same-addition (c .before .before .before .before .before .before .before .before .before .before .before .before .before .before .carved-key .ensures) (c .before .before .before .before .before .before .before .before .before .before .before .before .before .carved-info .ensures) refl) (c .before .before .before .before .before .before .before .before .before .add .ensures .store .answer) (ap outcome (c .before .n2 .given .1)))
 
 same-length-2 : tie.Need-same-length-2 Inv-loop μ-loop
-same-length-2 c = absurd (rows-refused (c .before .before .before .before .before .before .before .before .before .before .before .before .before .before .before .before .loop .inv .made) (c .before .before .before .before .before .before .before .before .before .before .before .before .before .before .before .loop-test .taken) (same-addition (c .before .before .before .before .before .before .before .before .before .before .before .before .before .before .carved-key .ensures) (c .before .before .before .before .before .before .before .before .before .before .before .before .before .carved-info .ensures) refl) (c .before .before .before .before .before .before .before .before .before .add .ensures .0) (ap outcome (c .before .n2 .given .1)))
+same-length-2 c = absurd (rows-refused (c .before .before .before .before .before .before .before .before .before .before .before .before .before .before .before .before .loop .inv .made) (c .before .before .before .before .before .before .before .before .before .before .before .before .before .before .before .loop-test .taken) (same-addition (c .before .before .before .before .before .before .before .before .before .before .before .before .before .before .carved-key .ensures) (c .before .before .before .before .before .before .before .before .before .before .before .before .before .carved-info .ensures) refl) (c .before .before .before .before .before .before .before .before .before .add .ensures .store .answer) (ap outcome (c .before .n2 .given .1)))
 
 same-length-3 : tie.Need-same-length-3 Inv-loop μ-loop
-same-length-3 c = absurd (rows-refused (c .before .before .before .before .before .before .before .before .before .before .before .before .before .before .before .before .loop .inv .made) (c .before .before .before .before .before .before .before .before .before .before .before .before .before .before .before .loop-test .taken) (same-addition (c .before .before .before .before .before .before .before .before .before .before .before .before .before .before .carved-key .ensures) (c .before .before .before .before .before .before .before .before .before .before .before .before .before .carved-info .ensures) refl) (c .before .before .before .before .before .before .before .before .before .add .ensures .0) (ap outcome (c .before .n2 .given .1)))
+same-length-3 c = absurd (rows-refused (c .before .before .before .before .before .before .before .before .before .before .before .before .before .before .before .before .loop .inv .made) (c .before .before .before .before .before .before .before .before .before .before .before .before .before .before .before .loop-test .taken) (same-addition (c .before .before .before .before .before .before .before .before .before .before .before .before .before .before .carved-key .ensures) (c .before .before .before .before .before .before .before .before .before .before .before .before .before .carved-info .ensures) refl) (c .before .before .before .before .before .before .before .before .before .add .ensures .store .answer) (ap outcome (c .before .n2 .given .1)))
 
 returns : tie.Need-returns Inv-loop μ-loop
-returns c = absurd (rows-refused (c .before .before .before .before .before .before .before .before .before .before .before .before .before .before .before .before .loop .inv .made) (c .before .before .before .before .before .before .before .before .before .before .before .before .before .before .before .loop-test .taken) (same-addition (c .before .before .before .before .before .before .before .before .before .before .before .before .before .before .carved-key .ensures) (c .before .before .before .before .before .before .before .before .before .before .before .before .before .carved-info .ensures) refl) (c .before .before .before .before .before .before .before .before .before .add .ensures .0) (ap outcome (c .before .n2 .given .1)))
+returns c = absurd (rows-refused (c .before .before .before .before .before .before .before .before .before .before .before .before .before .before .before .before .loop .inv .made) (c .before .before .before .before .before .before .before .before .before .before .before .before .before .before .before .loop-test .taken) (same-addition (c .before .before .before .before .before .before .before .before .before .before .before .before .before .before .carved-key .ensures) (c .before .before .before .before .before .before .before .before .before .before .before .before .before .carved-info .ensures) refl) (c .before .before .before .before .before .before .before .before .before .add .ensures .store .answer) (ap outcome (c .before .n2 .given .1)))
 
 add-i : tie.Need-add-i Inv-loop μ-loop
 add-i c = omega (arith, c .before .before .before .before .before .before .before .before .before .before .before .before .before .before .before .before .before .before .before .before .before .good)
@@ -68,7 +68,7 @@ same-length-6 : tie.Need-same-length-6 Inv-loop μ-loop
 same-length-6 c = keeping-nexts (c .before .loop .inv)
 
 returns-2 : tie.Need-returns-2 Inv-loop μ-loop
-returns-2 c = comes-indexed _ _ _ (rows-added-all (c .before .loop .inv .made) (c .loop-test .left) (c .before .before .before .before .before .before .pre .0)) refl refl (c .before .loop .inv .heads-kept, c .before .loop .inv .nexts-kept)
+returns-2 c = stores-by (rows-added-all (c .before .loop .inv .made) (c .loop-test .left) (c .before .before .before .before .before .before .pre .0)) refl refl (c .before .loop .inv .heads-kept, c .before .loop .inv .nexts-kept)
 
 pub add-carved-spec : {M : Type 1} → statement M
 add-carved-spec =

@@ -1,6 +1,5 @@
 -- The names tell how much room the list needs.
 use mathlib.Core.Path.{ap}
-use native.Mathlib.Omega.{arith}
 use Rattle.chain.specs.declared.ResolvedPath.{ResolvedPath}
 use borrow.Author.Needs.{needs}
 use Rattle.rewind.proofs.telling.chain_of.Statement.{statement}

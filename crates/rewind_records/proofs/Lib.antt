@@ -1,0 +1,3 @@
+pub mod EntryLaws
+pub mod RecordLaws
+pub mod TurnLaws

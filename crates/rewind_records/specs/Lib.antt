@@ -1,0 +1,4 @@
+pub mod Entries
+pub mod Environment
+pub mod Walking
+pub mod Turning

@@ -1,0 +1,27 @@
+-- The walk from the last record to the first as code goes it: by numbers, and over entries that are zeros where no record stands.
+use Prim.Native.Nat.{ℕ, _-_}
+use mathlib.Core.List.{List}
+use Rattle.entry_table.specs.Slots.{rows}
+use Rattle.entry_table.specs.Table.{Addition}
+use Rattle.entry_table.specs.declared.EntryKey.{EntryKey}
+use Rattle.rewind_records.specs.Entries.{entryAt, entryOr, backward}
+use Rattle.rewind_records.specs.Environment.{recordsIn, offsetIn}
+use Rattle.rewind_records.specs.declared.entries.RecordEntry.{RecordEntry}
+
+-- what the record says that is number i, and the one that is so far from the last
+abbrev pub entryIn : List ℕ → List ℕ → ℕ → RecordEntry
+entryIn journal l i = entryOr (entryAt journal (offsetIn l i))
+
+abbrev pub lastEntry : List ℕ → List ℕ → ℕ → RecordEntry
+lastEntry journal l i = entryIn journal l (recordsIn l - 1 - i)
+
+-- its key, and what it adds
+abbrev pub lastKey : List ℕ → List ℕ → ℕ → EntryKey
+lastKey journal l i = lastEntry journal l i .key
+
+abbrev pub lastAdded : List ℕ → List ℕ → ℕ → Addition
+lastAdded journal l i = backward (lastEntry journal l i)
+
+-- all of them
+abbrev pub walkedBack : List ℕ → List ℕ → List Addition
+walkedBack journal l = rows (lastAdded journal l) 0 (recordsIn l)
