@@ -5,7 +5,7 @@ use mathlib.Core.List.{List, [], _∷_}
 use native.Mathlib.Omega.{arith}
 use lib.ListN.{length}
 use lib.Seq.{sets}
-use Rattle.walk.specs.Lists.{flatten, placeWords, overwrite}
+use Rattle.walk.specs.Lists.{placeWords}
 use Rattle.walk.specs.Walk.{go}
 use Rattle.walk.proofs.ListLaws.{Writing, writing-start, writing-skip, writing-room, writing-row, writing-end}
 use Rattle.walk.proofs.WalkLaws.{Left}
@@ -13,6 +13,7 @@ use Rattle.usn_record.specs.Zeros.{PastZeros}
 use Rattle.usn_carver.specs.Settings.{Settings}
 use Rattle.usn_carver.specs.Events.{structure, time, Event, rejected, carved, records, structures, times, statsOf}
 use Rattle.usn_carver.specs.Carve.{visit, eventsFrom, events, recordsIn, statsIn}
+use Rattle.usn_carver.specs.Promise.{Fills}
 use Rattle.usn_carver.specs.declared.CarvingStats.{CarvingStats}
 use Rattle.usn_carver.proofs.SkipLaws.{skipped}
 
@@ -154,13 +155,13 @@ module _ {st : Settings} {s l₀ l : List ℕ} {x : CarvingStats} {o : ℕ} (f :
 
   -- where nothing is left, the counters and the list are those of the whole
   module _ (w : eventsFrom st s o ≡ []) where
-    pub filling-stats : x ≡ statsIn st s
-    filling-stats =
+    counters : x ≡ statsIn st s
+    counters =
         stats-are x (length s) (events st s) (f .bytes)
         (omega (arith, f .candidates, ap length w))
         (omega (arith, f .written .count, counted w))
         (omega (arith, f .time, ap times w))
         (omega (arith, f .structure, ap structures w))
 
-    pub filling-end : length (recordsIn st s) ≤ length l₀ / 2 → l ≡ overwrite l₀ (flatten placeWords (recordsIn st s))
-    filling-end h = writing-end placeWords 2 (λ _. refl) (f .written) (ap records w) h
+    pub filling-end : length (recordsIn st s) ≤ length l₀ / 2 → Fills st s l₀ x l
+    filling-end h = record { counters = counters; places = writing-end placeWords 2 (λ _. refl) (f .written) (ap records w) h }

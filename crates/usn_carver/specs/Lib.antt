@@ -1,5 +1,6 @@
 pub mod Settings
 pub mod Events
 pub mod Carve
+pub mod Promise
 pub mod Step
 pub mod Masking

@@ -4,10 +4,10 @@ ghost use mathlib.Core.List.{[]};
 ghost use Prim.Native.Nat.{_/_, _≤_};
 ghost use lib.ListN.{length};
 ghost use lib.Dec.{leb};
-ghost use Rattle.walk.specs.Lists.{flatten, placeWords, overwrite};
 ghost use Rattle.usn_carver.specs.Settings.{settingsOf};
 ghost use Rattle.usn_carver.specs.Events.{statsOf};
-ghost use Rattle.usn_carver.specs.Carve.{recordsIn, statsIn};
+ghost use Rattle.usn_carver.specs.Carve.{recordsIn};
+ghost use Rattle.usn_carver.specs.Promise.{FillPromise};
 use crate::CarvingStats;
 use crate::step::CarveStep;
 use crate::step::carve_step;
@@ -56,8 +56,7 @@ pub(crate) fn fill_list(
     largest: usize,
 ) -> CarvingStats
     requires { ⌜ length (recordsIn (settingsOf lower upper largest) (now extract)) ≤ length (now list) / 2 ⌝ }
-    ensures { λ r. ⌜ r ≡ statsIn (settingsOf lower upper largest) (now (extract .entry)) ⌝ }
-    ensures { λ _. ⌜ now (list .exit) ≡ overwrite (now (list .entry)) (flatten placeWords (recordsIn (settingsOf lower upper largest) (now (extract .entry)))) ⌝ }
+    ensures { λ r. ⌜ FillPromise (settingsOf lower upper largest) extract list r ⌝ }
 {
     let mut stats = nothing_met(extract.len());
     let mut o: usize = 0;

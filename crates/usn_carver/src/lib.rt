@@ -5,10 +5,8 @@ mod fill;
 mod step;
 mod time;
 
-ghost use mathlib.Core.Path.{_≡_};
-ghost use lib.ListN.{length};
 ghost use Rattle.usn_carver.specs.Settings.{standard, settingsOf};
-ghost use Rattle.usn_carver.specs.Carve.{outcome, carving, carvingList};
+ghost use Rattle.usn_carver.specs.Promise.{CarvePromise};
 use crate::fill::fill_list;
 use crate::fill::has_room;
 use walk::ABOVE_DOMAIN;
@@ -41,8 +39,7 @@ pub enum Carving {
 // limits. Their offsets and lengths go as pairs to the front of the list; the words after them are left alone.
 // Refused, with nothing written: 1 the extract is above the domain, 5 there are more records than half the list's words.
 pub fn carve_usn_records(extract: &[u8], list: &mut [usize]) -> Carving
-    ensures { λ r. ⌜ outcome r ≡ carving standard (now (extract .entry)) (length (now (list .entry))) ⌝ }
-    ensures { λ _. ⌜ now (list .exit) ≡ carvingList standard (now (extract .entry)) (now (list .entry)) ⌝ }
+    ensures { λ r. ⌜ CarvePromise standard extract list r ⌝ }
 {
     carve(
         extract,
@@ -55,8 +52,7 @@ pub fn carve_usn_records(extract: &[u8], list: &mut [usize]) -> Carving
 
 // Carving with any limits: the times from lower to upper, given by their bits, and records of up to largest bytes.
 fn carve(extract: &[u8], list: &mut [usize], lower: u64, upper: u64, largest: usize) -> Carving
-    ensures { λ r. ⌜ outcome r ≡ carving (settingsOf lower upper largest) (now (extract .entry)) (length (now (list .entry))) ⌝ }
-    ensures { λ _. ⌜ now (list .exit) ≡ carvingList (settingsOf lower upper largest) (now (extract .entry)) (now (list .entry)) ⌝ }
+    ensures { λ r. ⌜ CarvePromise (settingsOf lower upper largest) extract list r ⌝ }
 {
     if DOMAIN < extract.len() {
         return Carving::Refused(ABOVE_DOMAIN);

@@ -7,23 +7,25 @@ use lib.ListN.{length}
 use lib.Dec.{leb}
 use borrow.Author.Tests.{lt-ltb, le-ltb}
 use Rattle.walk.specs.Lists.{flatten, overwrite, placeWords}
-use Rattle.walk.specs.Outcome.{refused, answered}
+use Rattle.walk.specs.Outcome.{answered}
 use Rattle.walk.specs.Refusals.{aboveDomain, listFull, domain}
 use Rattle.usn_journal.specs.Scan.{scanned}
-use Rattle.usn_journal.specs.Outcome.{scan, scanAnswer, scanList}
+use Rattle.usn_journal.specs.Outcome.{scan}
+use Rattle.usn_journal.specs.Promise.{Scans}
+use Rattle.usn_journal.specs.declared.Scanned.the-variants.{Records, Refused}
 
 module _ (s l : List ℕ) where
-  pub refuses-above-domain : domain < length s → (refused aboveDomain ≡ scanAnswer s (length l)) × (l ≡ scanList s l)
+  pub refuses-above-domain : domain < length s → Scans s l (Refused aboveDomain) l
   unfolding scan
-  refuses-above-domain h = (simp (lt-ltb _ _ h), simp (lt-ltb _ _ h))
+  refuses-above-domain h = record { answer = simp (lt-ltb _ _ h); places = simp (lt-ltb _ _ h) }
 
   module _ (a : length s ≤ domain) where
-    pub refuses-full : leb (length (scanned s)) (length l / 2) ≡ false → (refused listFull ≡ scanAnswer s (length l)) × (l ≡ scanList s l)
+    pub refuses-full : leb (length (scanned s)) (length l / 2) ≡ false → Scans s l (Refused listFull) l
     unfolding scan
-    refuses-full h = (simp (le-ltb _ _ a, h), simp (le-ltb _ _ a, h))
+    refuses-full h = record { answer = simp (le-ltb _ _ a, h); places = simp (le-ltb _ _ a, h) }
 
     -- n and l′ are what the loop that writes the list answers and leaves
     pub lists : leb (length (scanned s)) (length l / 2) ≡ true → {n : ℕ} {l′ : List ℕ} → n ≡ length (scanned s)
-        → l′ ≡ overwrite l (flatten placeWords (scanned s)) → (answered n ≡ scanAnswer s (length l)) × (l′ ≡ scanList s l)
+        → l′ ≡ overwrite l (flatten placeWords (scanned s)) → Scans s l (Records n) l′
     unfolding scan
-    lists h p q = (simp (le-ltb _ _ a, h) (ap answered p), simp (le-ltb _ _ a, h) q)
+    lists h p q = record { answer = simp (le-ltb _ _ a, h) (ap answered p); places = simp (le-ltb _ _ a, h) q }

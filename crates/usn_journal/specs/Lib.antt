@@ -1,3 +1,4 @@
 pub mod Scan
 pub mod Outcome
+pub mod Promise
 pub mod Step

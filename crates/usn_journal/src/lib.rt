@@ -4,9 +4,7 @@
 mod records;
 mod step;
 
-ghost use mathlib.Core.Path.{_≡_};
-ghost use lib.ListN.{length};
-ghost use Rattle.usn_journal.specs.Outcome.{scanOutcome, scanAnswer, scanList};
+ghost use Rattle.usn_journal.specs.Promise.{ScanPromise};
 use crate::records::has_room;
 use crate::records::write_records;
 use walk::ABOVE_DOMAIN;
@@ -23,8 +21,7 @@ pub enum Scanned {
 // list's front on. Words past the results stay as they were, and all do where the call is refused.
 // Refused: 1 the extract is above the domain, 5 it has more records than the list takes, which is half its length.
 pub fn parse_usn_journal(extract: &[u8], list: &mut [usize]) -> Scanned
-    ensures { λ r. ⌜ scanOutcome r ≡ scanAnswer (now (extract .entry)) (length (now (list .entry))) ⌝ }
-    ensures { λ _. ⌜ now (list .exit) ≡ scanList (now (extract .entry)) (now (list .entry)) ⌝ }
+    ensures { λ r. ⌜ ScanPromise extract list r ⌝ }
 {
     if DOMAIN < extract.len() {
         return Scanned::Refused(ABOVE_DOMAIN);

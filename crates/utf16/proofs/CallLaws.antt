@@ -7,25 +7,23 @@ use native.Mathlib.Nat.{zero-add}
 use borrow.Author.Tests.{lt-ltb, le-ltb, leb-true, leb-false}
 use lib.ListN.{length}
 use lib.Dec.{leb}
-use Rattle.walk.specs.Outcome.{Outcome, refused, answered}
+use Rattle.walk.specs.Outcome.{refused, answered}
 use Rattle.walk.specs.Lists.{overwrite}
 use Rattle.walk.specs.Refusals.{aboveDomain, textFull, domain}
 use Rattle.walk.proofs.ListLaws.{sets-front}
-use Rattle.utf16.specs.Decoding.{textOf, decoding, textAfter}
+use Rattle.utf16.specs.Decoding.{textOf, decoding}
+use Rattle.utf16.specs.Promise.{Decodes}
+use Rattle.utf16.specs.declared.Decoded.the-variants.{Text, Refused}
 use Rattle.utf16.proofs.PutLaws.{Put}
 
 module _ (s l : List ℕ) where
-  -- the outcome is x, and the text holds m
-  abbrev Comes : Outcome ℕ → List ℕ → Type 0
-  Comes x m = (x ≡ decoding s (length l)) × (m ≡ textAfter s l)
+  kept : {n : ℕ} → refused n ≡ decoding s (length l) → Decodes s l (Refused n) l
+  kept e = record { answer = e; written = rw (← e) }
 
-  kept : {n : ℕ} → refused n ≡ decoding s (length l) → Comes (refused n) l
-  kept e = (e, rw (← e))
+  written : {n : ℕ} {m : List ℕ} → answered n ≡ decoding s (length l) → m ≡ overwrite l (textOf s) → Decodes s l (Text n) m
+  written e h = record { answer = e; written = rw (← e) h }
 
-  written : {n : ℕ} {m : List ℕ} → answered n ≡ decoding s (length l) → m ≡ overwrite l (textOf s) → Comes (answered n) m
-  written e h = (e, rw (← e) h)
-
-  pub above-domain : domain < length s → Comes (refused aboveDomain) l
+  pub above-domain : domain < length s → Decodes s l (Refused aboveDomain) l
   unfolding decoding
   above-domain h = kept (simp (lt-ltb _ _ h))
 
@@ -33,11 +31,11 @@ module _ (s l : List ℕ) where
   text-room e = rw zero-add (leb-true _ _ e)
 
   module _ (a : length s ≤ domain) where
-    pub text-full : leb (length (textOf s)) (length l) ≡ false → Comes (refused textFull) l
+    pub text-full : leb (length (textOf s)) (length l) ≡ false → Decodes s l (Refused textFull) l
     unfolding decoding
     text-full e = kept (simp (le-ltb _ _ a, lt-ltb _ _ (leb-false (length (textOf s)) (length l) e)))
 
-    pub text-written : {n : ℕ} {m : List ℕ} → leb (length (textOf s)) (length l) ≡ true → Put l m 0 n (textOf s) → Comes (answered n) m
+    pub text-written : {n : ℕ} {m : List ℕ} → leb (length (textOf s)) (length l) ≡ true → Put l m 0 n (textOf s) → Decodes s l (Text n) m
     unfolding decoding
     text-written e p =
         let room = leb-true _ _ e in

@@ -8,9 +8,7 @@ pub mod decimal;
 pub mod name;
 pub mod plain;
 
-ghost use mathlib.Core.Path.{_≡_};
-ghost use lib.ListN.{length};
-ghost use Rattle.utf16.specs.Decoding.{outcome, decoding, textAfter};
+ghost use Rattle.utf16.specs.Promise.{DecodePromise};
 use crate::name::has_room;
 use crate::name::put_name;
 use walk::ABOVE_DOMAIN;
@@ -28,8 +26,7 @@ pub enum Decoded {
 // Refused, with nothing written: 1 the bytes are above the domain, 8 the text is too small. Room for three bytes a unit is
 // always enough, and then the units are read only once.
 pub fn decode_utf16(bytes: &[u8], text: &mut [u8]) -> Decoded
-    ensures { λ r. ⌜ outcome r ≡ decoding (now (bytes .entry)) (length (now (text .entry))) ⌝ }
-    ensures { λ _. ⌜ now (text .exit) ≡ textAfter (now (bytes .entry)) (now (text .entry)) ⌝ }
+    ensures { λ r. ⌜ DecodePromise bytes text r ⌝ }
 {
     let n = bytes.len();
     if DOMAIN < n {

@@ -5,7 +5,7 @@ use lib.ListN.{length}
 use borrow.Author.Needs.{needs}
 use Rattle.usn_carver.specs.Settings.{settingsOf}
 use Rattle.usn_carver.proofs.RunLaws.{rest}
-use Rattle.usn_carver.proofs.FillLaws.{Filling, filling-start, filling-pass, filling-skip, filling-structure, filling-time, filling-room, filling-carved, filling-stats, filling-end}
+use Rattle.usn_carver.proofs.FillLaws.{Filling, filling-start, filling-pass, filling-skip, filling-structure, filling-time, filling-room, filling-carved, filling-end}
 use Rattle.usn_carver.proofs.fill.fill_list.Statement.{statement}
 use Rattle.usn_carver.proofs.fill.fill_list.Tie as tie
 
@@ -31,7 +31,7 @@ same-length : tie.Need-same-length Inv-loop μ-loop
 same-length c = c .before .before .before .loop .inv .written .same
 
 returns : tie.Need-returns Inv-loop μ-loop
-returns c = let w = rest _ _ _ (c .enum-told .given .1) (c .before .before .carve-step .ensures) in (filling-stats (c .before .before .before .loop .inv) w, filling-end (c .before .before .before .loop .inv) w (c .before .before .before .before .before .before .before .pre))
+returns c = let w = rest _ _ _ (c .enum-told .given .1) (c .before .before .carve-step .ensures) in filling-end (c .before .before .before .loop .inv) w (c .before .before .before .before .before .before .before .pre)
 
 enum-known-next : tie.Need-enum-known-next Inv-loop μ-loop
 enum-known-next c = search needs
