@@ -1,37 +1,37 @@
--- The ways out of the call: the outcome by its tests, and what the list then holds. Assumes nothing.
+-- The ways out of the call by its tests. Assumes nothing.
 use Prim.Native.Nat.{ℕ, _/_, _≤_, _<_}
 use mathlib.Core.Path.{_≡_, ap, _∙_}
 use mathlib.Core.List.{List}
 use lib.ListN.{length}
 use borrow.Author.Tests.{lt-ltb, le-ltb}
 use Rattle.walk.specs.Outcome.{refused, answered}
-use Rattle.walk.specs.Lists.{flatten, overwrite}
 use Rattle.walk.specs.Refusals.{aboveDomain, listFull, domain}
 use Rattle.mft_carver.specs.Settings.{Settings}
-use Rattle.mft_carver.specs.Carve.{events, carving, carvingList, entriesIn, statsIn, stride, entryWords}
+use Rattle.mft_carver.specs.Carve.{events, carving, entriesIn, statsIn, stride}
+use Rattle.mft_carver.specs.Promise.{Carves, Fills}
+use Rattle.mft_carver.specs.declared.MftCarving.the-variants.{Carved, Refused}
 use Rattle.mft_carver.specs.declared.MftCarvingStats.{MftCarvingStats}
 
-module _ (st : Settings) (s : List ℕ) (words : ℕ) where
-  pub refused-above-domain : domain < length s → refused aboveDomain ≡ carving st s words
-  unfolding carving
-  refused-above-domain h = simp (lt-ltb _ _ h)
-
-  pub refused-list-full : length s ≤ domain → words / stride < length (entriesIn st s) → refused listFull ≡ carving st s words
-  unfolding carving
-  refused-list-full a h = simp (le-ltb _ _ a, lt-ltb _ _ h)
-
-  pub answered-carved : {x : MftCarvingStats} → length s ≤ domain → length (entriesIn st s) ≤ words / stride → x ≡ statsIn st s
-      → answered x ≡ carving st s words
-  unfolding carving
-  answered-carved a b e = ap answered e ∙ simp (le-ltb _ _ a, le-ltb _ _ b)
-
 module _ (st : Settings) (s l : List ℕ) where
-  pub list-kept : {n : ℕ} → refused n ≡ carving st s (length l) → l ≡ carvingList st s l
-  list-kept e = rw (← e)
+  kept : {n : ℕ} → refused n ≡ carving st s (length l) → Carves st s l (Refused n) l
+  kept e = record { answer = e; places = rw (← e) }
 
-  pub list-filled : {x : MftCarvingStats} {l′ : List ℕ} → answered x ≡ carving st s (length l) → l′ ≡ overwrite l (flatten entryWords (entriesIn st s))
-      → l′ ≡ carvingList st s l
-  list-filled e f = rw (← e) f
+  pub refuses-above-domain : domain < length s → Carves st s l (Refused aboveDomain) l
+  unfolding carving
+  refuses-above-domain h = kept (simp (lt-ltb _ _ h))
+
+  module _ (a : length s ≤ domain) where
+    pub refuses-full : length l / stride < length (entriesIn st s) → Carves st s l (Refused listFull) l
+    unfolding carving
+    refuses-full h = kept (simp (le-ltb _ _ a, lt-ltb _ _ h))
+
+    answers : length (entriesIn st s) ≤ length l / stride → {x : MftCarvingStats} → x ≡ statsIn st s → answered x ≡ carving st s (length l)
+    unfolding carving
+    answers h e = ap answered e ∙ simp (le-ltb _ _ a, le-ltb _ _ h)
+
+    -- x and l′ are what the loop that fills the list answers and leaves
+    pub carves : length (entriesIn st s) ≤ length l / stride → {x : MftCarvingStats} {l′ : List ℕ} → Fills st s l x l′ → Carves st s l (Carved x) l′
+    carves h f = let e = answers h (f .counters) in record { answer = e; places = rw (← e) (f .places) }
 
 -- runs with the same events come out the same
 pub outcome-agrees : (st : Settings) (s t : List ℕ) (words : ℕ) → length t ≡ length s → events st t ≡ events st s → carving st t words ≡ carving st s words

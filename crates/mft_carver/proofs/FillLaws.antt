@@ -7,13 +7,13 @@ use mir.Val.{boolByte}
 use native.Mathlib.Omega.{arith}
 use lib.ListN.{length}
 use lib.Seq.{sets}
-use Rattle.walk.specs.Lists.{flatten, overwrite}
 use Rattle.walk.specs.Walk.{go}
 use Rattle.walk.proofs.ListLaws.{Writing, writing-start, writing-skip, writing-room, writing-row, writing-end}
 use Rattle.walk.proofs.WalkLaws.{Left}
 use Rattle.mft_carver.specs.Settings.{Settings}
 use Rattle.mft_carver.specs.Entry.{Event, rejected, carved}
 use Rattle.mft_carver.specs.Carve.{visit, eventsFrom, events, entries, rejections, statsOf, entriesIn, statsIn, stride, flag, entryWords}
+use Rattle.mft_carver.specs.Promise.{Fills}
 use Rattle.mft_carver.specs.declared.CarvedMftEntry.{CarvedMftEntry}
 use Rattle.mft_carver.specs.declared.MftCarvingStats.{MftCarvingStats}
 
@@ -137,12 +137,12 @@ module _ {st : Settings} {s l₀ l : List ℕ} {x : MftCarvingStats} {o : ℕ} (
 
   -- where nothing is left, the counters and the list are those of the whole
   module _ (w : eventsFrom st s o ≡ []) where
-    pub filling-stats : x ≡ statsIn st s
-    filling-stats =
+    counters : x ≡ statsIn st s
+    counters =
         stats-are x (length s) (events st s) (f .bytes)
         (omega (arith, f .candidates, ap length w))
         (omega (arith, f .written .count, counted w))
         (omega (arith, f .refusals, ap rejections w))
 
-    pub filling-end : length (entriesIn st s) ≤ length l₀ / stride → l ≡ overwrite l₀ (flatten entryWords (entriesIn st s))
-    filling-end h = writing-end entryWords stride (λ _. refl) (f .written) (ap entries w) h
+    pub filling-end : length (entriesIn st s) ≤ length l₀ / stride → Fills st s l₀ x l
+    filling-end h = record { counters = counters; places = writing-end entryWords stride (λ _. refl) (f .written) (ap entries w) h }

@@ -3,6 +3,7 @@ pub mod Filename
 pub mod Attributes
 pub mod Entry
 pub mod Carve
+pub mod Promise
 pub mod Masking
 pub mod Sample
 pub mod Step

@@ -1,13 +1,13 @@
 // The loops over an image: one that fills a lent list and counts, and one that asks whether the list has room.
 ghost use mathlib.Core.Path.{_≡_};
 ghost use mathlib.Core.List.{[]};
-ghost use Prim.Native.Nat.{_/_, _≤_};
+ghost use Prim.Native.Nat.{_≤_};
 ghost use lib.ListN.{length};
 ghost use lib.Dec.{leb};
-ghost use Rattle.walk.specs.Lists.{flatten, overwrite};
 ghost use Rattle.walk.specs.Refusals.{domain};
 ghost use Rattle.mft_carver.specs.Settings.{settingsOf};
-ghost use Rattle.mft_carver.specs.Carve.{statsOf, entriesIn, statsIn, stride, entryWords};
+ghost use Rattle.mft_carver.specs.Carve.{statsOf, entriesIn, entryWords};
+ghost use Rattle.mft_carver.specs.Promise.{FillAsks, FillPromise};
 use crate::CarvedMftEntry;
 use crate::MftCarvingStats;
 use crate::step::CarveStep;
@@ -64,9 +64,8 @@ pub(crate) fn fill_list(
     high: usize,
     walked: usize,
 ) -> MftCarvingStats
-    requires { ⌜ (1 ≤ size) × (length (now image) ≤ domain) × (length (entriesIn (settingsOf size low high walked) (now image)) ≤ length (now list) / stride) ⌝ }
-    ensures { λ r. ⌜ r ≡ statsIn (settingsOf size low high walked) (now (image .entry)) ⌝ }
-    ensures { λ _. ⌜ now (list .exit) ≡ overwrite (now (list .entry)) (flatten entryWords (entriesIn (settingsOf size low high walked) (now (image .entry)))) ⌝ }
+    requires { ⌜ FillAsks (settingsOf size low high walked) (now image) (now list) ⌝ }
+    ensures { λ r. ⌜ FillPromise (settingsOf size low high walked) image list r ⌝ }
 {
     let mut stats = nothing_met(image.len());
     let mut o: usize = 0;

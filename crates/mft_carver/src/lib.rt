@@ -8,11 +8,9 @@ mod filename;
 mod fill;
 mod step;
 
-ghost use mathlib.Core.Path.{_≡_};
 ghost use Prim.Native.Nat.{_≤_};
-ghost use lib.ListN.{length};
 ghost use Rattle.mft_carver.specs.Settings.{standard, settingsOf};
-ghost use Rattle.mft_carver.specs.Carve.{outcome, carving, carvingList};
+ghost use Rattle.mft_carver.specs.Promise.{CarvePromise};
 use crate::fill::ENTRY_WORDS;
 use crate::fill::fill_list;
 use crate::fill::has_room;
@@ -66,8 +64,7 @@ pub enum MftCarving {
 // or 0 for a directory and for in use. The words after them are left alone.
 // Refused, with nothing written: 1 the image is above the domain, 5 there are more entries than the list has room for.
 pub fn carve_mft_entries(image: &[u8], list: &mut [u64]) -> MftCarving
-    ensures { λ r. ⌜ outcome r ≡ carving standard (now (image .entry)) (length (now (list .entry))) ⌝ }
-    ensures { λ _. ⌜ now (list .exit) ≡ carvingList standard (now (image .entry)) (now (list .entry)) ⌝ }
+    ensures { λ r. ⌜ CarvePromise standard image list r ⌝ }
 {
     carve(
         image,
@@ -89,8 +86,7 @@ fn carve(
     walked: usize,
 ) -> MftCarving
     requires { ⌜ 1 ≤ size ⌝ }
-    ensures { λ r. ⌜ outcome r ≡ carving (settingsOf size low high walked) (now (image .entry)) (length (now (list .entry))) ⌝ }
-    ensures { λ _. ⌜ now (list .exit) ≡ carvingList (settingsOf size low high walked) (now (image .entry)) (now (list .entry)) ⌝ }
+    ensures { λ r. ⌜ CarvePromise (settingsOf size low high walked) image list r ⌝ }
 {
     if DOMAIN < image.len() {
         return MftCarving::Refused(ABOVE_DOMAIN);

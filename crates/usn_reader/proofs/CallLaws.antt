@@ -11,6 +11,7 @@ use Rattle.walk.specs.Refusals.{tooManyBytes}
 use Rattle.usn_reader.specs.Window.{refusalOf, wantedOf, finished, fedBy, Ready}
 use Rattle.usn_reader.specs.Rule.{Reads, reading, asking, searched}
 use Rattle.usn_reader.specs.Calls.{nextOf, giveRefusal, giveOf, bufferAfter}
+use Rattle.usn_reader.specs.Promise.{Gives}
 use Rattle.usn_reader.specs.declared.UsnJournalReader.{UsnJournalReader}
 use Rattle.usn_reader.specs.declared.Answer.the-variants.{End, Refused}
 use Rattle.usn_reader.specs.declared.Reading.{Reading}
@@ -44,41 +45,36 @@ pub sets-none : (b : List ℕ) (i : ℕ) (x : List ℕ) → length x ≡ 0 → b
 sets-none b i [] e = refl
 sets-none b i (x ∷ xs) e = absurd (omega arith)
 
--- what giving leaves: the answer x, and of a buffer b the buffer b′
-pub record Gives (b bytes : List ℕ) (w : UsnJournalReader) (x : Reading) (b′ : List ℕ) : Type 0 where
-  pub answer : x ≡ giveOf (length b) (length bytes) w
-  pub buffer : b′ ≡ bufferAfter b bytes w
-
 module _ (b bytes : List ℕ) (w : UsnJournalReader) {k : ℕ} (e : k ≡ refusalOf w (length b)) where
-  pub give-refused : (k ≡ 0 → ⊥) → Gives b bytes w (reading (Refused k) w) b
+  pub give-refused : (k ≡ 0 → ⊥) → Gives w b bytes (reading (Refused k) w) b
   unfolding giveOf giveRefusal bufferAfter
-  give-refused h = record { answer = simp (sym e, ne-eqb _ _ h); buffer = simp (sym e, ne-eqb _ _ h) }
+  give-refused h = record { answer = simp (sym e, ne-eqb _ _ h); filled = simp (sym e, ne-eqb _ _ h) }
 
   module _ (z : k ≡ 0) {m : ℕ} (f : m ≡ wantedOf w) where
-    pub give-too-many : m < length bytes → Gives b bytes w (reading (Refused tooManyBytes) w) b
+    pub give-too-many : m < length bytes → Gives w b bytes (reading (Refused tooManyBytes) w) b
     unfolding giveOf giveRefusal bufferAfter
-    give-too-many h = record { answer = simp (sym e, z, sym f, lt-ltb _ _ h); buffer = simp (sym e, z, sym f, lt-ltb _ _ h) }
+    give-too-many h = record { answer = simp (sym e, z, sym f, lt-ltb _ _ h); filled = simp (sym e, z, sym f, lt-ltb _ _ h) }
 
     module _ (h : length bytes ≤ m) where
       -- the bytes have room behind those that are held
       pub give-fits : w .start + (w .held + length bytes) ≤ w .end
       give-fits = let s = sound w (length b) e z in omega (arith, s .fits, wanted-le w)
 
-      pub give-nothing : length bytes ≡ 0 → m ≡ 0 → {x : Reading} → x ≡ asking w → Gives b bytes w x b
+      pub give-nothing : length bytes ≡ 0 → m ≡ 0 → {x : Reading} → x ≡ asking w → Gives w b bytes x b
       unfolding giveOf giveRefusal bufferAfter
       give-nothing g i q =
-          record { answer = q ∙ simp (sym e, z, sym f, i, g); buffer = simp (sym e, z, sym f, le-ltb _ _ h) (sets-none b (w .held) bytes g) }
+          record { answer = q ∙ simp (sym e, z, sym f, i, g); filled = simp (sym e, z, sym f, le-ltb _ _ h) (sets-none b (w .held) bytes g) }
 
-      pub give-end : length bytes ≡ 0 → (m ≡ 0 → ⊥) → {v : UsnJournalReader} → v ≡ finished w → Gives b bytes w (reading End v) b
+      pub give-end : length bytes ≡ 0 → (m ≡ 0 → ⊥) → {v : UsnJournalReader} → v ≡ finished w → Gives w b bytes (reading End v) b
       unfolding giveOf giveRefusal bufferAfter
       give-end g i q =
           record {
             answer = rw q (simp (sym e, z, sym f, g, le-ltb m 0 (omega arith), ne-eqb _ _ i));
-            buffer = simp (sym e, z, sym f, le-ltb _ _ h) (sets-none b (w .held) bytes g);
+            filled = simp (sym e, z, sym f, le-ltb _ _ h) (sets-none b (w .held) bytes g);
           }
 
       pub give-bytes : (length bytes ≡ 0 → ⊥) → {b′ : List ℕ} {v : UsnJournalReader} {x : Reading} → b′ ≡ sets b (w .held) bytes
-          → v ≡ fedBy w (length bytes) → x ≡ asking v → Gives b bytes w x b′
+          → v ≡ fedBy w (length bytes) → x ≡ asking v → Gives w b bytes x b′
       unfolding giveOf giveRefusal bufferAfter
       give-bytes g p q i =
-          record { answer = i ∙ rw q (simp (sym e, z, sym f, le-ltb _ _ h, ne-eqb _ _ g)); buffer = p ∙ simp (sym e, z, sym f, le-ltb _ _ h) }
+          record { answer = i ∙ rw q (simp (sym e, z, sym f, le-ltb _ _ h, ne-eqb _ _ g)); filled = p ∙ simp (sym e, z, sym f, le-ltb _ _ h) }

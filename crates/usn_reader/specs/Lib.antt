@@ -1,5 +1,6 @@
 pub mod Window
 pub mod Rule
 pub mod Calls
+pub mod Promise
 pub mod Journal
 pub mod Run

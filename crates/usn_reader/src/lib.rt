@@ -8,7 +8,8 @@ mod window;
 ghost use mathlib.Core.Path.{_≡_};
 ghost use lib.ListN.{length};
 ghost use Rattle.usn_reader.specs.Window.{fresh};
-ghost use Rattle.usn_reader.specs.Calls.{nextOf, giveOf, bufferAfter};
+ghost use Rattle.usn_reader.specs.Calls.{nextOf};
+ghost use Rattle.usn_reader.specs.Promise.{GivePromise};
 ghost use Rattle.usn_reader.specs.Rule.{bufferReads};
 use usn_record::UsnRecord;
 
@@ -96,8 +97,7 @@ impl UsnJournalReader {
     // reading for good. Refused: 1 the total is above 1099511627776, 11 the buffer is not 65536 long, 9 the numbers cannot be a
     // window's, 10 more bytes than are wanted.
     pub fn give(self, buffer: &mut [u8], bytes: &[u8]) -> Reading
-        ensures { λ r. ⌜ r ≡ giveOf (length (now (buffer .entry))) (length (now (bytes .entry))) self ⌝ }
-        ensures { λ _. ⌜ now (buffer .exit) ≡ bufferAfter (now (buffer .entry)) (now (bytes .entry)) self ⌝ }
+        ensures { λ r. ⌜ GivePromise self buffer bytes r ⌝ }
     {
         let refusal = self.refusal(buffer.len());
         if refusal != 0 {

@@ -6,7 +6,7 @@ use lib.ListN.{length}
 use borrow.Author.Needs.{needs}
 use Rattle.mft_carver.specs.Settings.{settingsOf}
 use Rattle.mft_carver.proofs.RunLaws.{rest}
-use Rattle.mft_carver.proofs.FillLaws.{Filling, filling-start, filling-pass, filling-rejected, filling-room, filling-carved, filling-stats, filling-end}
+use Rattle.mft_carver.proofs.FillLaws.{Filling, filling-start, filling-pass, filling-rejected, filling-room, filling-carved, filling-end}
 use Rattle.mft_carver.proofs.fill.fill_list.Statement.{statement}
 use Rattle.mft_carver.proofs.fill.fill_list.Tie as tie
 
@@ -32,31 +32,31 @@ same-length : tie.Need-same-length Inv-loop μ-loop
 same-length c = c .before .before .before .loop .inv .written .same
 
 returns : tie.Need-returns Inv-loop μ-loop
-returns c = let w = rest _ _ (c .before .before .before .before .before .before .before .pre .0) _ (c .enum-told .given .1) (c .before .before .carve-step .ensures) in (filling-stats (c .before .before .before .loop .inv) w, filling-end (c .before .before .before .loop .inv) w (c .before .before .before .before .before .before .before .pre .2))
+returns c = let w = rest _ _ (c .before .before .before .before .before .before .before .pre .sized) _ (c .enum-told .given .1) (c .before .before .carve-step .ensures) in filling-end (c .before .before .before .loop .inv) w (c .before .before .before .before .before .before .before .pre .room)
 
 enum-known-next : tie.Need-enum-known-next Inv-loop μ-loop
 enum-known-next c = search needs
 
 loop-less : tie.Need-loop-less Inv-loop μ-loop
-loop-less c = let w = rest _ _ (c .before .before .before .before .before .before .before .before .pre .0) _ (c .before .next .given .1) (c .before .before .before .carve-step .ensures) in omega arith
+loop-less c = let w = rest _ _ (c .before .before .before .before .before .before .before .before .pre .sized) _ (c .before .next .given .1) (c .before .before .before .carve-step .ensures) in omega arith
 
 loop-again : tie.Need-loop-again Inv-loop μ-loop
-loop-again c = filling-pass (c .before .before .before .before .loop .inv) _ (rest _ _ (c .before .before .before .before .before .before .before .before .pre .0) _ (c .before .next .given .1) (c .before .before .before .carve-step .ensures))
+loop-again c = filling-pass (c .before .before .before .before .loop .inv) _ (rest _ _ (c .before .before .before .before .before .before .before .before .pre .sized) _ (c .before .next .given .1) (c .before .before .before .carve-step .ensures))
 
 enum-known-next-2 : tie.Need-enum-known-next-2 Inv-loop μ-loop
 enum-known-next-2 c = search needs
 
 add-stats : tie.Need-add-stats Inv-loop μ-loop
-add-stats c = let w = rest _ _ (c .before .before .before .before .before .before .before .before .before .pre .0) _ (c .before .before .next2 .given .1) (c .before .before .before .before .carve-step .ensures) in omega arith
+add-stats c = let w = rest _ _ (c .before .before .before .before .before .before .before .before .before .pre .sized) _ (c .before .before .next2 .given .1) (c .before .before .before .before .carve-step .ensures) in omega arith
 
 add-stats-2 : tie.Need-add-stats-2 Inv-loop μ-loop
-add-stats-2 c = let w = rest _ _ (c .before .before .before .before .before .before .before .before .before .before .pre .0) _ (c .before .before .before .next2 .given .1) (c .before .before .before .before .before .carve-step .ensures) in omega arith
+add-stats-2 c = let w = rest _ _ (c .before .before .before .before .before .before .before .before .before .before .pre .sized) _ (c .before .before .before .next2 .given .1) (c .before .before .before .before .before .carve-step .ensures) in omega arith
 
 loop-less-2 : tie.Need-loop-less-2 Inv-loop μ-loop
-loop-less-2 c = let w = rest _ _ (c .before .before .before .before .before .before .before .before .before .before .pre .0) _ (c .before .before .before .next2 .given .1) (c .before .before .before .before .before .carve-step .ensures) in omega arith
+loop-less-2 c = let w = rest _ _ (c .before .before .before .before .before .before .before .before .before .before .pre .sized) _ (c .before .before .before .next2 .given .1) (c .before .before .before .before .before .carve-step .ensures) in omega arith
 
 loop-again-2 : tie.Need-loop-again-2 Inv-loop μ-loop
-loop-again-2 c = filling-rejected (c .before .before .before .before .before .before .loop .inv) _ (rest _ _ (c .before .before .before .before .before .before .before .before .before .before .pre .0) _ (c .before .before .before .next2 .given .1) (c .before .before .before .before .before .carve-step .ensures))
+loop-again-2 c = filling-rejected (c .before .before .before .before .before .before .loop .inv) _ (rest _ _ (c .before .before .before .before .before .before .before .before .before .before .pre .sized) _ (c .before .before .before .next2 .given .1) (c .before .before .before .before .before .carve-step .ensures))
 
 enum-known-entry : tie.Need-enum-known-entry Inv-loop μ-loop
 enum-known-entry c = search needs
@@ -65,25 +65,25 @@ entry-row-requires : tie.Need-entry-row-requires Inv-loop μ-loop
 entry-row-requires c κs = tt
 
 mul-put-words : tie.Need-mul-put-words Inv-loop μ-loop
-mul-put-words c = let w = rest _ _ (c .before .before .before .before .before .before .before .before .before .before .before .pre .0) _ (c .before .before .before .before .entry .given .1) (c .before .before .before .before .before .before .carve-step .ensures) in omega arith
+mul-put-words c = let w = rest _ _ (c .before .before .before .before .before .before .before .before .before .before .before .pre .sized) _ (c .before .before .before .before .entry .given .1) (c .before .before .before .before .before .before .carve-step .ensures) in omega arith
 
 slice-aggregate-put-words : tie.Need-slice-aggregate-put-words Inv-loop μ-loop
 slice-aggregate-put-words c = search needs
 
 put-words-requires : tie.Need-put-words-requires Inv-loop μ-loop
-put-words-requires c κs = let r = filling-room (c .before .before .before .before .before .before .before .before .loop .inv) _ _ (rest _ _ (c .before .before .before .before .before .before .before .before .before .before .before .before .pre .0) _ (c .before .before .before .before .before .entry .given .1) (c .before .before .before .before .before .before .before .carve-step .ensures)) (c .before .before .before .before .before .before .before .before .before .before .before .before .pre .2) in omega (arith, ap length (c .before .before .before .entry-row .ensures))
+put-words-requires c κs = let r = filling-room (c .before .before .before .before .before .before .before .before .loop .inv) _ _ (rest _ _ (c .before .before .before .before .before .before .before .before .before .before .before .before .pre .sized) _ (c .before .before .before .before .before .entry .given .1) (c .before .before .before .before .before .before .before .carve-step .ensures)) (c .before .before .before .before .before .before .before .before .before .before .before .before .pre .room) in omega (arith, ap length (c .before .before .before .entry-row .ensures))
 
 add-stats-3 : tie.Need-add-stats-3 Inv-loop μ-loop
-add-stats-3 c = let w = rest _ _ (c .before .before .before .before .before .before .before .before .before .before .before .before .before .before .before .before .pre .0) _ (c .before .before .before .before .before .before .before .before .before .entry .given .1) (c .before .before .before .before .before .before .before .before .before .before .before .carve-step .ensures) in omega arith
+add-stats-3 c = let w = rest _ _ (c .before .before .before .before .before .before .before .before .before .before .before .before .before .before .before .before .pre .sized) _ (c .before .before .before .before .before .before .before .before .before .entry .given .1) (c .before .before .before .before .before .before .before .before .before .before .before .carve-step .ensures) in omega arith
 
 add-stats-4 : tie.Need-add-stats-4 Inv-loop μ-loop
-add-stats-4 c = let w = rest _ _ (c .before .before .before .before .before .before .before .before .before .before .before .before .before .before .before .before .before .pre .0) _ (c .before .before .before .before .before .before .before .before .before .before .entry .given .1) (c .before .before .before .before .before .before .before .before .before .before .before .before .carve-step .ensures) in omega arith
+add-stats-4 c = let w = rest _ _ (c .before .before .before .before .before .before .before .before .before .before .before .before .before .before .before .before .before .pre .sized) _ (c .before .before .before .before .before .before .before .before .before .before .entry .given .1) (c .before .before .before .before .before .before .before .before .before .before .before .before .carve-step .ensures) in omega arith
 
 loop-less-3 : tie.Need-loop-less-3 Inv-loop μ-loop
-loop-less-3 c = let w = rest _ _ (c .before .before .before .before .before .before .before .before .before .before .before .before .before .before .before .before .before .pre .0) _ (c .before .before .before .before .before .before .before .before .before .before .entry .given .1) (c .before .before .before .before .before .before .before .before .before .before .before .before .carve-step .ensures) in omega arith
+loop-less-3 c = let w = rest _ _ (c .before .before .before .before .before .before .before .before .before .before .before .before .before .before .before .before .before .pre .sized) _ (c .before .before .before .before .before .before .before .before .before .before .entry .given .1) (c .before .before .before .before .before .before .before .before .before .before .before .before .carve-step .ensures) in omega arith
 
 loop-again-3 : tie.Need-loop-again-3 Inv-loop μ-loop
-loop-again-3 c = filling-carved (c .before .before .before .before .before .before .before .before .before .before .before .before .before .loop .inv) _ _ (rest _ _ (c .before .before .before .before .before .before .before .before .before .before .before .before .before .before .before .before .before .pre .0) _ (c .before .before .before .before .before .before .before .before .before .before .entry .given .1) (c .before .before .before .before .before .before .before .before .before .before .before .before .carve-step .ensures)) (c .before .before .before .before .before .before .before .before .entry-row .ensures) (c .before .before .before .before .put-words .ensures)
+loop-again-3 c = filling-carved (c .before .before .before .before .before .before .before .before .before .before .before .before .before .loop .inv) _ _ (rest _ _ (c .before .before .before .before .before .before .before .before .before .before .before .before .before .before .before .before .before .pre .sized) _ (c .before .before .before .before .before .before .before .before .before .before .entry .given .1) (c .before .before .before .before .before .before .before .before .before .before .before .before .carve-step .ensures)) (c .before .before .before .before .before .before .before .before .entry-row .ensures) (c .before .before .before .before .put-words .ensures)
 
 pub fill-list-spec : {M : Type 1} → statement M
 fill-list-spec =
