@@ -9,42 +9,29 @@ use Rattle.walk.specs.Outcome.{Outcome, refused, answered, mapOutcome}
 use Rattle.walk.specs.Lists.{listAfter}
 use Rattle.walk.specs.Refusals.{listFull}
 use Rattle.walk.proofs.ListLaws.{sets-front}
-use Rattle.usn_answers.specs.Answers.{number, written, withRoom}
-
--- the number r goes out, and a lent list that was l is m
-pub record Out {A : Type 0} (words : A → List ℕ) (x : Outcome A) (l m : List ℕ) (r : ℕ) : Type 0 where
-  pub answer : r ≡ number x
-  pub list : m ≡ listAfter words x l
+use Rattle.usn_answers.specs.Answers.{written, withRoom}
+use Rattle.usn_answers.specs.Promise.{Answers, Lists}
 
 module _ {A : Type 0} (words : A → List ℕ) (l : List ℕ) {x : Outcome A} where
-  pub out-refused : {n : ℕ} → x ≡ refused n → Out words x l l n
-  out-refused e = rw e (record { answer = refl; list = refl })
+  pub out-refused : {n : ℕ} → x ≡ refused n → Answers words x l n l
+  out-refused e = rw e (record { answer = refl; row = refl })
 
-  pub out-answered : {a : A} {row m : List ℕ} → x ≡ answered a → length (words a) ≤ length l → row ≡ words a → m ≡ sets l 0 row → Out words x l m 0
-  out-answered {a} e h f g = rw (e, g, f) (record { answer = refl; list = sets-front l (words a) h })
+  pub out-answered : {a : A} {row m : List ℕ} → x ≡ answered a → length (words a) ≤ length l → row ≡ words a → m ≡ sets l 0 row → Answers words x l 0 m
+  out-answered {a} e h f g = rw (e, g, f) (record { answer = refl; row = sets-front l (words a) h })
 
--- what a call with one lent list has to show, and one with two
-abbrev pub One : {A : Type 0} → (A → List ℕ) → Outcome A → List ℕ → List ℕ → ℕ → Type 0
-One words x l m r = (r ≡ number x) × (m ≡ listAfter words x l)
-
-abbrev pub Both : {A : Type 0} → (A → List ℕ) → (A → List ℕ) → Outcome A → List ℕ → List ℕ → List ℕ → List ℕ → ℕ → Type 0
-Both words words′ x l m l′ m′ r = (r ≡ number x) × ((m ≡ listAfter words x l) × (m′ ≡ listAfter words′ x l′))
-
-pub out-one : {A : Type 0} {words : A → List ℕ} {x : Outcome A} {l m : List ℕ} {r : ℕ} → Out words x l m r → One words x l m r
-out-one o = (o .answer, o .list)
-
-pub out-both : {A : Type 0} {words words′ : A → List ℕ} {x : Outcome A} {l m l′ m′ : List ℕ} {r : ℕ} → Out words x l m r → Out words′ x l′ m′ r → Both words words′ x l m l′ m′ r
-out-both o p = (o .answer, (o .list, p .list))
+-- what goes out in one list and in another goes out in both
+pub out-both : {A : Type 0} {words words′ : A → List ℕ} {x : Outcome A} {l m l′ m′ : List ℕ} {r : ℕ} → Answers words x l r m → Answers words′ x l′ r m′ → Lists words words′ x l l′ r m m′
+out-both o p = record { answer = o .answer; listed = o .row; row = p .row }
 
 module _ {A : Type 0} {words : A → List ℕ} {l m : List ℕ} {r : ℕ} where
   -- an outcome that equals another goes out as it does
-  pub out-same : {x y : Outcome A} → Out words x l m r → x ≡ y → Out words y l m r
+  pub out-same : {x y : Outcome A} → Answers words x l r m → x ≡ y → Answers words y l r m
   out-same o e = rw e at o
 
   -- and one that is made of another goes out as that one does, with the words of what is made
-  pub out-mapped : {B : Type 0} {f : B → A} (x : Outcome B) → Out words (mapOutcome f x) l m r → Out (λ b. words (f b)) x l m r
-  out-mapped (refused n) o = record { answer = o .answer; list = o .list }
-  out-mapped (answered b) o = record { answer = o .answer; list = o .list }
+  pub out-mapped : {B : Type 0} {f : B → A} (x : Outcome B) → Answers words (mapOutcome f x) l r m → Answers (λ b. words (f b)) x l r m
+  out-mapped (refused n) o = record { answer = o .answer; row = o .row }
+  out-mapped (answered b) o = record { answer = o .answer; row = o .row }
 
 module _ {A : Type 0} (words : A → List ℕ) (room : ℕ) {x : Outcome A} where
   pub written-refused : {n : ℕ} → x ≡ refused n → written words room x ≡ refused n
@@ -71,8 +58,8 @@ module _ {A : Type 0} (x : Outcome A) {n room : ℕ} where
 
 -- A call that asks for n words of its second list: its callee has the outcome x and leaves m in the first.
 module _ {A : Type 0} (words words′ : A → List ℕ) (n : ℕ) (x : Outcome A) (l l′ : List ℕ) where
-  pub both-short : length l′ < n → Both words words′ (withRoom n (length l′) x) l l l′ l′ listFull
-  both-short h = let e = room-few x h in out-both (out-refused words l e) (out-refused words′ l′ e)
+  pub lists-short : length l′ < n → Lists words words′ (withRoom n (length l′) x) l l′ listFull l l′
+  lists-short h = let e = room-few x h in out-both (out-refused words l e) (out-refused words′ l′ e)
 
-  pub both-answered : n ≤ length l′ → {m m′ : List ℕ} {r : ℕ} → m ≡ listAfter words x l → Out words′ x l′ m′ r → Both words words′ (withRoom n (length l′) x) l m l′ m′ r
-  both-answered h e o = rw (room-enough x h) (out-both (record { answer = o .answer; list = e }) o)
+  pub lists-answered : n ≤ length l′ → {m m′ : List ℕ} {r : ℕ} → m ≡ listAfter words x l → Answers words′ x l′ r m′ → Lists words words′ (withRoom n (length l′) x) l l′ r m m′
+  lists-answered h e o = rw (room-enough x h) (record { answer = o .answer; listed = e; row = o .row })

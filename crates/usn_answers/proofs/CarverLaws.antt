@@ -9,8 +9,9 @@ use Rattle.usn_carver.specs.declared.Carving.{Carving}
 use Rattle.usn_carver.specs.declared.Carving.the-variants.{Carved}
 use Rattle.usn_carver.specs.declared.CarvingStats.{CarvingStats}
 use Rattle.usn_carver.specs.Events.{statsWords}
-use Rattle.usn_answers.proofs.AnswerLaws.{Out, out-answered}
+use Rattle.usn_answers.specs.Promise.{Answers}
+use Rattle.usn_answers.proofs.AnswerLaws.{out-answered}
 
 pub stats-answered : (y : Carving) (l : List ℕ) {stats : CarvingStats} → y ≡ Carved stats → 5 ≤ length l → {row m : List ℕ} → row ≡ statsWords stats → m ≡ sets l 0 row
-    → Out statsWords (outcome y) l m 0
+    → Answers statsWords (outcome y) l 0 m
 stats-answered y l e h f g = out-answered statsWords l (ap outcome e) h f g

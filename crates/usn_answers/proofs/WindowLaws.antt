@@ -18,7 +18,8 @@ use Rattle.usn_reader.specs.declared.Answer.{Answer}
 use Rattle.usn_reader.specs.declared.Answer.the-variants.{Record, Wants, End, Refused}
 use Rattle.usn_reader.specs.declared.Reading.{Reading}
 use Rattle.usn_answers.specs.Window.{readerWords, readerOf, answerWords, windowWords, readingWords, outcomeBy, readingOutcome}
-use Rattle.usn_answers.proofs.AnswerLaws.{Both, out-both, out-refused, out-answered}
+use Rattle.usn_answers.specs.Promise.{Lists}
+use Rattle.usn_answers.proofs.AnswerLaws.{out-both, out-refused, out-answered}
 use Rattle.usn_answers.proofs.RecordLaws.{record-words}
 
 -- the row that code makes of a window
@@ -35,35 +36,35 @@ unfolding readerWords
 reader-words w = refl
 
 -- A reading x goes out: with the number r, the window's words l are l′, and the answer's words o are o′
-abbrev pub Told : Outcome Reading → List ℕ → List ℕ → List ℕ → List ℕ → ℕ → Type 0
-Told = Both windowWords readingWords
+abbrev pub Told : Outcome Reading → List ℕ → List ℕ → ℕ → List ℕ → List ℕ → Type 0
+Told = Lists windowWords readingWords
 
-pub told-refused : (l o : List ℕ) {x : Outcome Reading} {n : ℕ} → x ≡ refused n → Told x l l o o n
+pub told-refused : (l o : List ℕ) {x : Outcome Reading} {n : ℕ} → x ≡ refused n → Told x l o n l o
 told-refused l o e = out-both (out-refused windowWords l e) (out-refused readingWords o e)
 
 module _ (x : Reading) (l o : List ℕ) where
   by : {a : Answer} → x .answer ≡ a → readingOutcome x ≡ outcomeBy a x
   by e = ap (λ (a : Answer). outcomeBy a x) e
 
-  pub reading-refused : {n : ℕ} → x .answer ≡ Refused n → Told (readingOutcome x) l l o o n
+  pub reading-refused : {n : ℕ} → x .answer ≡ Refused n → Told (readingOutcome x) l o n l o
   reading-refused e = told-refused l o (by e)
 
   module _ (h : 6 ≤ length l) (k : 22 ≤ length o) {l′ : List ℕ} (f : l′ ≡ sets l 0 (readerWords (x .reader))) where
-    told : {row o′ : List ℕ} → readingOutcome x ≡ answered x → answerWords (x .answer) ≡ row → length row ≤ 22 → o′ ≡ sets o 0 row → Told (readingOutcome x) l l′ o o′ 0
+    told : {row o′ : List ℕ} → readingOutcome x ≡ answered x → answerWords (x .answer) ≡ row → length row ≤ 22 → o′ ≡ sets o 0 row → Told (readingOutcome x) l o 0 l′ o′
     told q e n g =
         out-both (out-answered windowWords l q (omega (arith, reader-words (x .reader))) refl f)
         (out-answered readingWords o q (rw e (omega arith)) (sym e) g)
 
-    pub reading-end : x .answer ≡ End → {o′ : List ℕ} → o′ ≡ sets o 0 (0 ∷ 0 ∷ 0 ∷ []) → Told (readingOutcome x) l l′ o o′ 0
+    pub reading-end : x .answer ≡ End → {o′ : List ℕ} → o′ ≡ sets o 0 (0 ∷ 0 ∷ 0 ∷ []) → Told (readingOutcome x) l o 0 l′ o′
     unfolding answerWords
     reading-end e g = told (by e) (ap answerWords e) (omega arith) g
 
-    pub reading-wants : {a n : ℕ} → x .answer ≡ Wants a n → {o′ : List ℕ} → o′ ≡ sets o 0 (1 ∷ a ∷ n ∷ []) → Told (readingOutcome x) l l′ o o′ 0
+    pub reading-wants : {a n : ℕ} → x .answer ≡ Wants a n → {o′ : List ℕ} → o′ ≡ sets o 0 (1 ∷ a ∷ n ∷ []) → Told (readingOutcome x) l o 0 l′ o′
     unfolding answerWords
     reading-wants e g = told (by e) (ap answerWords e) (omega arith) g
 
     pub reading-record : {a n : ℕ} {r : UsnRecord} → x .answer ≡ Record a n r → {o′ o″ row : List ℕ} → o′ ≡ sets o 0 (2 ∷ a ∷ n ∷ []) → row ≡ recordWords r
-        → o″ ≡ sets o′ 3 row → Told (readingOutcome x) l l′ o o″ 0
+        → o″ ≡ sets o′ 3 row → Told (readingOutcome x) l o 0 l′ o″
     unfolding answerWords
     reading-record {a} {n} {r} e p q g =
         told (by e) (ap answerWords e) (omega (arith, record-words r)) (g ∙ rw (p, q) (sym (sets-append o 0 (2 ∷ a ∷ n ∷ []) (recordWords r))))

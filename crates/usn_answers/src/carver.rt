@@ -2,10 +2,9 @@
 ghost use mathlib.Core.Path.{_≡_};
 ghost use Prim.Native.Nat.{_≤_};
 ghost use lib.ListN.{length};
-ghost use Rattle.walk.specs.Lists.{listAfter};
 ghost use Rattle.usn_carver.specs.Carve.{outcome};
-ghost use Rattle.usn_answers.specs.Answers.{number};
 ghost use Rattle.usn_carver.specs.Events.{statsWords};
+ghost use Rattle.usn_answers.specs.Promise.{AnswerPromise};
 use usn_carver::Carving;
 use usn_carver::CarvingStats;
 use walk::put_words;
@@ -13,8 +12,7 @@ use walk::put_words;
 // Carving's answer: 0 with the counters in front of the lent words, or the refusal.
 pub fn put_stats(carving: Carving, out: &mut [u64]) -> u32
     requires { ⌜ 5 ≤ length (now out) ⌝ }
-    ensures { λ r. ⌜ r ≡ number (outcome carving) ⌝ }
-    ensures { λ _. ⌜ now (out .exit) ≡ listAfter statsWords (outcome carving) (now (out .entry)) ⌝ }
+    ensures { λ r. ⌜ AnswerPromise statsWords (outcome carving) out r ⌝ }
 {
     match carving {
         Carving::Carved(stats) => {

@@ -1,9 +1,7 @@
 // A parser's answer as a number and words.
 ghost use mathlib.Core.Path.{_≡_};
-ghost use lib.ListN.{length};
-ghost use Rattle.walk.specs.Lists.{listAfter};
 ghost use Rattle.usn_record.specs.Record.{outcome, recordWords};
-ghost use Rattle.usn_answers.specs.Answers.{number, written};
+ghost use Rattle.usn_answers.specs.Promise.{RecordPromise};
 use usn_record::Parsed;
 use usn_record::UsnRecord;
 use usn_record::bytes::signed_bits;
@@ -15,8 +13,7 @@ const RECORD_WORDS: usize = 19;
 
 // A parser's answer: 0 with the record's words in front of the lent ones, or the refusal; 5 where they have no room.
 pub fn put_record(p: Parsed, words: &mut [u64]) -> u32
-    ensures { λ r. ⌜ r ≡ number (written recordWords (length (now (words .entry))) (outcome p)) ⌝ }
-    ensures { λ _. ⌜ now (words .exit) ≡ listAfter recordWords (written recordWords (length (now (words .entry))) (outcome p)) (now (words .entry)) ⌝ }
+    ensures { λ r. ⌜ RecordPromise (outcome p) words r ⌝ }
 {
     match p {
         Parsed::Record(r) => {

@@ -4,9 +4,8 @@ ghost use mathlib.Core.List.{[], _∷_};
 ghost use Prim.Native.Nat.{_≤_};
 ghost use lib.ListN.{length};
 ghost use lib.Seq.{sets};
-ghost use Rattle.walk.specs.Lists.{listAfter};
-ghost use Rattle.usn_answers.specs.Answers.{number};
-ghost use Rattle.usn_answers.specs.Window.{readerWords, readerOf, windowWords, readingWords, readingOutcome};
+ghost use Rattle.usn_answers.specs.Promise.{ReadingPromise};
+ghost use Rattle.usn_answers.specs.Window.{readerWords, readerOf, readingOutcome};
 use crate::record_words::row_of;
 use usn_reader::Answer;
 use usn_reader::Reading;
@@ -61,9 +60,7 @@ fn reader_row(w: UsnJournalReader) -> [u64; 6]
 // A call's answer: 0 with the window's words and the answer's in front of the lent ones, or the refusal.
 pub fn put_reading(x: Reading, reader: &mut [u64], out: &mut [u64]) -> u32
     requires { ⌜ (6 ≤ length (now reader)) × (22 ≤ length (now out)) ⌝ }
-    ensures { λ r. ⌜ r ≡ number (readingOutcome x) ⌝ }
-    ensures { λ _. ⌜ now (reader .exit) ≡ listAfter windowWords (readingOutcome x) (now (reader .entry)) ⌝ }
-    ensures { λ _. ⌜ now (out .exit) ≡ listAfter readingWords (readingOutcome x) (now (out .entry)) ⌝ }
+    ensures { λ r. ⌜ ReadingPromise (readingOutcome x) reader out r ⌝ }
 {
     let w = x.reader;
     let answer = x.answer;

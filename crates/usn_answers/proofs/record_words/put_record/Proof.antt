@@ -1,8 +1,6 @@
 -- Each case of the answer, and the stores of its words.
 use borrow.Author.Needs.{needs}
 use Rattle.usn_answers.proofs.RecordLaws.{record-refused, record-full, record-answered}
-use denote.Ref.{now}
-use Rattle.usn_answers.proofs.AnswerLaws.{out-one}
 use Rattle.usn_answers.proofs.record_words.put_record.Statement.{statement}
 use Rattle.usn_answers.proofs.record_words.put_record.Tie as tie
 
@@ -10,7 +8,7 @@ enum-known-p : tie.Need-enum-known-p
 enum-known-p c = search needs
 
 returns : tie.Need-returns
-returns c = out-one (record-full _ (now (c .before .before .before .before .before .args .words)) (c .before .before .p .given .1) (c .if1 .taken))
+returns c = record-full _ _ (c .before .before .p .given .1) (c .if1 .taken)
 
 row-of-requires : tie.Need-row-of-requires
 row-of-requires c κs = search needs
@@ -28,10 +26,10 @@ same-length : tie.Need-same-length
 same-length c = search needs
 
 returns-2 : tie.Need-returns-2
-returns-2 c = out-one (record-answered _ (now (c .before .before .before .before .before .before .before .before .before .before .before .args .words)) (c .before .before .before .before .before .before .before .before .p .given .1) (c .before .before .before .before .before .before .if1 .left) (c .before .before .before .before .before .row-of .ensures) (c .before .before .put-words .ensures))
+returns-2 c = record-answered _ _ (c .before .before .before .before .before .before .before .before .p .given .1) (c .before .before .before .before .before .before .if1 .left) (c .before .before .before .before .before .row-of .ensures) (c .before .before .put-words .ensures)
 
 returns-3 : tie.Need-returns-3
-returns-3 c = out-one (record-refused _ (now (c .before .before .before .before .args .words)) (c .before .p2 .given .1))
+returns-3 c = record-refused _ _ (c .before .p2 .given .1)
 
 pub put-record-spec : {M : Type 1} → statement M
 put-record-spec =

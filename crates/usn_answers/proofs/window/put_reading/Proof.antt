@@ -1,6 +1,5 @@
 -- Each case of the answer, and the stores of its words.
 use borrow.Author.Needs.{needs}
-use denote.Ref.{now}
 use Rattle.usn_answers.proofs.WindowLaws.{reading-refused, reading-end, reading-wants, reading-record}
 use Rattle.usn_answers.proofs.window.put_reading.Statement.{statement}
 use Rattle.usn_answers.proofs.window.put_reading.Tie as tie
@@ -45,7 +44,7 @@ put-reader-requires-3 : tie.Need-put-reader-requires-3
 put-reader-requires-3 c κs = search needs
 
 returns : tie.Need-returns
-returns c = reading-refused _ (now (c .before .before .before .before .before .before .args .reader)) (now (c .before .before .before .before .before .before .args .out)) (c .before .answer .given .1)
+returns c = reading-refused _ _ _ (c .before .answer .given .1)
 
 same-length : tie.Need-same-length
 same-length c = search needs
@@ -54,7 +53,7 @@ same-length-2 : tie.Need-same-length-2
 same-length-2 c = search needs
 
 returns-2 : tie.Need-returns-2
-returns-2 c = reading-end _ (now (c .before .before .before .before .before .before .before .before .before .before .before .before .before .args .reader)) (now (c .before .before .before .before .before .before .before .before .before .before .before .before .before .args .out)) (c .before .before .before .before .before .before .before .before .before .before .before .before .before .pre .0) (c .before .before .before .before .before .before .before .before .before .before .before .before .before .pre .1) (c .before .before .put-reader .ensures) (c .before .before .before .before .before .before .before .before .enum-told .given .1) (c .before .before .before .before .before .before .put-three .ensures)
+returns-2 c = reading-end _ _ _ (c .before .before .before .before .before .before .before .before .before .before .before .before .before .pre .0) (c .before .before .before .before .before .before .before .before .before .before .before .before .before .pre .1) (c .before .before .put-reader .ensures) (c .before .before .before .before .before .before .before .before .enum-told .given .1) (c .before .before .before .before .before .before .put-three .ensures)
 
 same-length-3 : tie.Need-same-length-3
 same-length-3 c = search needs
@@ -63,7 +62,7 @@ same-length-4 : tie.Need-same-length-4
 same-length-4 c = search needs
 
 returns-3 : tie.Need-returns-3
-returns-3 c = reading-wants _ (now (c .before .before .before .before .before .before .before .before .before .before .before .before .before .before .args .reader)) (now (c .before .before .before .before .before .before .before .before .before .before .before .before .before .before .args .out)) (c .before .before .before .before .before .before .before .before .before .before .before .before .before .before .pre .0) (c .before .before .before .before .before .before .before .before .before .before .before .before .before .before .pre .1) (c .before .before .put-reader2 .ensures) (c .before .before .before .before .before .before .before .before .before .answer2 .given .1) (c .before .before .before .before .before .before .put-three2 .ensures)
+returns-3 c = reading-wants _ _ _ (c .before .before .before .before .before .before .before .before .before .before .before .before .before .before .pre .0) (c .before .before .before .before .before .before .before .before .before .before .before .before .before .before .pre .1) (c .before .before .put-reader2 .ensures) (c .before .before .before .before .before .before .before .before .before .answer2 .given .1) (c .before .before .before .before .before .before .put-three2 .ensures)
 
 same-length-5 : tie.Need-same-length-5
 same-length-5 c = search needs
@@ -72,7 +71,7 @@ same-length-6 : tie.Need-same-length-6
 same-length-6 c = search needs
 
 returns-4 : tie.Need-returns-4
-returns-4 c = reading-record _ (now (c .before .before .before .before .before .before .before .before .before .before .before .before .before .before .before .before .before .before .before .before .args .reader)) (now (c .before .before .before .before .before .before .before .before .before .before .before .before .before .before .before .before .before .before .before .before .args .out)) (c .before .before .before .before .before .before .before .before .before .before .before .before .before .before .before .before .before .before .before .before .pre .0) (c .before .before .before .before .before .before .before .before .before .before .before .before .before .before .before .before .before .before .before .before .pre .1) (c .before .before .put-reader3 .ensures) (c .before .before .before .before .before .before .before .before .before .before .before .before .before .before .before .answer3 .given .1) (c .before .before .before .before .before .before .before .before .before .before .before .before .put-three3 .ensures) (c .before .before .before .before .before .before .before .before .before .row-of .ensures) (c .before .before .before .before .before .before .put-words .ensures)
+returns-4 c = reading-record _ _ _ (c .before .before .before .before .before .before .before .before .before .before .before .before .before .before .before .before .before .before .before .before .pre .0) (c .before .before .before .before .before .before .before .before .before .before .before .before .before .before .before .before .before .before .before .before .pre .1) (c .before .before .put-reader3 .ensures) (c .before .before .before .before .before .before .before .before .before .before .before .before .before .before .before .answer3 .given .1) (c .before .before .before .before .before .before .before .before .before .before .before .before .put-three3 .ensures) (c .before .before .before .before .before .before .before .before .before .row-of .ensures) (c .before .before .before .before .before .before .put-words .ensures)
 
 pub put-reading-spec : {M : Type 1} → statement M
 put-reading-spec =
