@@ -5,9 +5,10 @@ use mathlib.Core.List.{List}
 use Rattle.walk.specs.Outcome.{Outcome}
 use Rattle.usn_journal.specs.Outcome.{scan, scanAnswer}
 use Rattle.usn_answers.specs.Journal.{countWords}
-use Rattle.usn_answers.proofs.AnswerLaws.{Out, out-same, out-mapped}
+use Rattle.usn_answers.specs.Promise.{Answers}
+use Rattle.usn_answers.proofs.AnswerLaws.{out-same, out-mapped}
 use Rattle.usn_journal_reader.specs.Journal.{journalWords}
 
 -- the number of records that is answered is that of the records that are listed
-pub journal-out : (s : List ℕ) (words : ℕ) {y : Outcome ℕ} {l m : List ℕ} {r : ℕ} → y ≡ scanAnswer s words → Out countWords y l m r → Out journalWords (scan s words) l m r
+pub journal-out : (s : List ℕ) (words : ℕ) {y : Outcome ℕ} {l m : List ℕ} {r : ℕ} → y ≡ scanAnswer s words → Answers countWords y l r m → Answers journalWords (scan s words) l r m
 journal-out s words e o = out-mapped (scan s words) (out-same o e)

@@ -8,7 +8,6 @@ use lib.ListN.{length}
 use lib.Seq.{sets}
 use lib.Dec.{eqb}
 use Rattle.walk.specs.Outcome.{Outcome, refused, answered}
-use Rattle.walk.specs.Lists.{listAfter}
 use Rattle.walk.specs.Refusals.{listFull}
 use Rattle.usn_reader.specs.Window.{fresh, wantedOf, finished, fedBy}
 use Rattle.usn_reader.specs.Rule.{bufferReads, reading, asking}
@@ -16,19 +15,21 @@ use Rattle.usn_reader.specs.Calls.{nextOf, giveOf, giveRefusal, bufferAfter}
 use Rattle.usn_reader.specs.declared.UsnJournalReader.{UsnJournalReader}
 use Rattle.usn_reader.specs.declared.Answer.the-variants.{End, Refused}
 use Rattle.usn_reader.specs.declared.Reading.{Reading}
-use Rattle.usn_answers.specs.Answers.{number, unlessRefused}
+use Rattle.usn_answers.specs.Answers.{unlessRefused}
+use Rattle.usn_answers.specs.Promise.{Answers}
 use Rattle.usn_answers.specs.Window.{readerWords, readerOf, answerWords, windowWords, readingWords, readingOutcome}
-use Rattle.usn_answers.proofs.AnswerLaws.{One, out-one, out-refused, out-answered, room-few, room-enough}
+use Rattle.usn_answers.proofs.AnswerLaws.{out-refused, out-answered, room-few, room-enough}
 use Rattle.usn_answers.proofs.WindowLaws.{reader-words, Told, told-refused}
+use Rattle.usn_journal_reader.specs.Promise.{Gives}
 use Rattle.usn_journal_reader.specs.Window.{onWindow, newCall, nextCall, giveCall, giveBuffer}
 
 -- a new window
 module _ (total : ℕ) (l : List ℕ) where
-  pub new-short : length l < 6 → One readerWords (newCall total l) l l 5
-  new-short h = out-one (out-refused readerWords l (room-few _ h))
+  pub new-short : length l < 6 → Answers readerWords (newCall total l) l 5 l
+  new-short h = out-refused readerWords l (room-few _ h)
 
-  pub new-answers : 6 ≤ length l → {w : UsnJournalReader} {l′ : List ℕ} → w ≡ fresh total → l′ ≡ sets l 0 (readerWords w) → One readerWords (newCall total l) l l′ 0
-  new-answers h e g = out-one (out-answered readerWords l (room-enough _ h) (omega (arith, reader-words (fresh total))) (ap readerWords e) g)
+  pub new-answers : 6 ≤ length l → {w : UsnJournalReader} {l′ : List ℕ} → w ≡ fresh total → l′ ≡ sets l 0 (readerWords w) → Answers readerWords (newCall total l) l 0 l′
+  new-answers h e g = out-answered readerWords l (room-enough _ h) (omega (arith, reader-words (fresh total))) (ap readerWords e) g
 
 -- a call on a window: lists that are too short are refused first
 module _ (l o : List ℕ) (x : Reading) where
@@ -47,7 +48,7 @@ module _ (l o : List ℕ) (x : Reading) where
 
 -- the next answer x is that of the window w that is read from l
 pub next-answers : (l b o : List ℕ) → 6 ≤ length l → 22 ≤ length o → {w : UsnJournalReader} → w ≡ readerOf l → {x : Reading} → x ≡ nextOf (bufferReads b) (length b) w
-    → {l′ o′ : List ℕ} {r : ℕ} → Told (readingOutcome x) l l′ o o′ r → Told (nextCall l b o) l l′ o o′ r
+    → {l′ o′ : List ℕ} {r : ℕ} → Told (readingOutcome x) l o r l′ o′ → Told (nextCall l b o) l o r l′ o′
 next-answers l b o h k e f t = rw (window-answers l o _ h k) (rw (f, e) at t)
 
 -- A giving that is refused leaves the buffer: a reading v that is no refusal, or one, by the test that decides on both.
@@ -66,23 +67,19 @@ buffer-kept : (b x : List ℕ) (w : UsnJournalReader) → bufferAfter b x w ≡ 
 unfolding giveOf bufferAfter
 buffer-kept b x w = kept (eqb (giveRefusal (length b) (length x) w) 0) _ _ _ b _ (accepted (eqb (length x) 0) (eqb (wantedOf w) 0) w (fedBy w (length x)))
 
--- what giving has to show, with b′ for the buffer
-abbrev pub Given : List ℕ → List ℕ → List ℕ → List ℕ → List ℕ → List ℕ → List ℕ → ℕ → Type 0
-Given l b bytes o l′ b′ o′ r =
-    let x = giveCall l b bytes o in
-    (r ≡ number x) × ((l′ ≡ listAfter windowWords x l) × ((b′ ≡ giveBuffer l b bytes o) × (o′ ≡ listAfter readingWords x o)))
-
 module _ (l b bytes o : List ℕ) where
-  pub give-refused : giveCall l b bytes o ≡ refused listFull → Given l b bytes o l b o 5
+  pub give-refused : giveCall l b bytes o ≡ refused listFull → Gives l b bytes o 5 l b o
   give-refused e =
-      let t = told-refused l o e in
-      (t .0, (t .1 .0, (ap (λ (y : Outcome Reading). unlessRefused y b (bufferAfter b bytes (readerOf l))) (sym e), t .1 .1)))
+      record {
+        told = told-refused l o e;
+        filled = ap (λ (y : Outcome Reading). unlessRefused y b (bufferAfter b bytes (readerOf l))) (sym e);
+      }
 
   pub give-answers : 6 ≤ length l → 22 ≤ length o → {w : UsnJournalReader} → w ≡ readerOf l → {x : Reading} → x ≡ giveOf (length b) (length bytes) w
-      → {b′ : List ℕ} → b′ ≡ bufferAfter b bytes w → {l′ o′ : List ℕ} {r : ℕ} → Told (readingOutcome x) l l′ o o′ r → Given l b bytes o l′ b′ o′ r
+      → {b′ : List ℕ} → b′ ≡ bufferAfter b bytes w → {l′ o′ : List ℕ} {r : ℕ} → Told (readingOutcome x) l o r l′ o′ → Gives l b bytes o r l′ b′ o′
   give-answers h k e f g t =
-      let u = rw (f, e) at t in
-      rw (window-answers l o _ h k) (u .0, (u .1 .0, ((rw e at g) ∙ buffer-kept b bytes (readerOf l), u .1 .1)))
+      let q = window-answers l o (giveOf (length b) (length bytes) (readerOf l)) h k in
+      record { told = rw q (rw (f, e) at t); filled = rw q ((rw e at g) ∙ buffer-kept b bytes (readerOf l)) }
 
 -- giving never answers a record: its answer has three words, or none where it is refused
 pub give-words : (n k : ℕ) (w : UsnJournalReader) → length (readingWords (giveOf n k w)) ≤ 3

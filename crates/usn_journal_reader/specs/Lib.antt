@@ -1,3 +1,4 @@
 pub mod Journal
 pub mod Window
 pub mod Carver
+pub mod Promise

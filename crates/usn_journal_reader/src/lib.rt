@@ -10,17 +10,8 @@
 //
 // Every function here is proved, and none has a `requires`. A refused call writes nothing, and one that answers writes the words
 // of its answer alone: those past them stay as they were.
-ghost use mathlib.Core.Path.{_≡_};
-ghost use lib.ListN.{length};
-ghost use Rattle.walk.specs.Lists.{flatten, listAfter, placeWords};
 ghost use Rattle.usn_record.specs.Layout.{v2, v3};
-ghost use Rattle.usn_record.specs.Record.{parsed, listed, recordWords};
-ghost use Rattle.usn_answers.specs.Answers.{number, written};
-ghost use Rattle.usn_answers.specs.Window.{readerWords, windowWords, readingWords};
-ghost use Rattle.usn_carver.specs.Events.{statsWords};
-ghost use Rattle.usn_journal_reader.specs.Carver.{carveCall, carvedWords};
-ghost use Rattle.usn_journal_reader.specs.Journal.{journalCall, journalWords};
-ghost use Rattle.usn_journal_reader.specs.Window.{newCall, nextCall, giveCall, giveBuffer};
+ghost use Rattle.usn_journal_reader.specs.Promise.{ParsePromise, ListedPromise, JournalPromise, CarvePromise, NewPromise, NextPromise, GivePromise};
 use usn_answers::carver::put_stats;
 use usn_answers::journal::put_count;
 use usn_answers::record_words::put_record;
@@ -43,8 +34,7 @@ const ANSWER_WORDS: usize = 22;
 // 60 bytes, 3 the length field is outside 60..65536, 4 it passes data, 5 fewer than 19 words are lent.
 #[no_mangle]
 pub extern "C" fn usn_parse_record_v2(data: &[u8], words: &mut [u64]) -> u32
-    ensures { λ r. ⌜ r ≡ number (written recordWords (length (now (words .entry))) (parsed v2 (now («data» .entry)))) ⌝ }
-    ensures { λ _. ⌜ now (words .exit) ≡ listAfter recordWords (written recordWords (length (now (words .entry))) (parsed v2 (now («data» .entry)))) (now (words .entry)) ⌝ }
+    ensures { λ r. ⌜ ParsePromise v2 «data» words r ⌝ }
 {
     put_record(usn_record::parse_usn_record_v2(data), words)
 }
@@ -53,8 +43,7 @@ pub extern "C" fn usn_parse_record_v2(data: &[u8], words: &mut [u64]) -> u32
 // 76 bytes, 3 the length field is outside 76..65536, 5 fewer than 19 words are lent.
 #[no_mangle]
 pub extern "C" fn usn_parse_record_v3(data: &[u8], words: &mut [u64]) -> u32
-    ensures { λ r. ⌜ r ≡ number (written recordWords (length (now (words .entry))) (parsed v3 (now («data» .entry)))) ⌝ }
-    ensures { λ _. ⌜ now (words .exit) ≡ listAfter recordWords (written recordWords (length (now (words .entry))) (parsed v3 (now («data» .entry)))) (now (words .entry)) ⌝ }
+    ensures { λ r. ⌜ ParsePromise v3 «data» words r ⌝ }
 {
     put_record(usn_record::parse_usn_record_v3(data), words)
 }
@@ -63,8 +52,7 @@ pub extern "C" fn usn_parse_record_v3(data: &[u8], words: &mut [u64]) -> u32
 // accepts stands there, 5 fewer than 19 words are lent.
 #[no_mangle]
 pub extern "C" fn usn_listed_record(extract: &[u8], offset: usize, words: &mut [u64]) -> u32
-    ensures { λ r. ⌜ r ≡ number (written recordWords (length (now (words .entry))) (listed (now (extract .entry)) offset)) ⌝ }
-    ensures { λ _. ⌜ now (words .exit) ≡ listAfter recordWords (written recordWords (length (now (words .entry))) (listed (now (extract .entry)) offset)) (now (words .entry)) ⌝ }
+    ensures { λ r. ⌜ ListedPromise extract offset words r ⌝ }
 {
     put_record(usn_record::listed_record(extract, offset), words)
 }
@@ -74,9 +62,7 @@ pub extern "C" fn usn_listed_record(extract: &[u8], offset: usize, words: &mut [
 // record.
 #[no_mangle]
 pub extern "C" fn usn_parse_journal(extract: &[u8], list: &mut [usize], out: &mut [u64]) -> u32
-    ensures { λ r. ⌜ r ≡ number (journalCall (now (extract .entry)) (now (list .entry)) (now (out .entry))) ⌝ }
-    ensures { λ _. ⌜ now (list .exit) ≡ listAfter (flatten placeWords) (journalCall (now (extract .entry)) (now (list .entry)) (now (out .entry))) (now (list .entry)) ⌝ }
-    ensures { λ _. ⌜ now (out .exit) ≡ listAfter journalWords (journalCall (now (extract .entry)) (now (list .entry)) (now (out .entry))) (now (out .entry)) ⌝ }
+    ensures { λ r. ⌜ JournalPromise extract list out r ⌝ }
 {
     if out.len() < JOURNAL_WORDS {
         return LIST_FULL;
@@ -89,8 +75,7 @@ pub extern "C" fn usn_parse_journal(extract: &[u8], list: &mut [usize], out: &mu
 // Answers 0, or refuses: 5 reader has fewer than 6 words.
 #[no_mangle]
 pub extern "C" fn usn_reader_new(total: u64, reader: &mut [u64]) -> u32
-    ensures { λ r. ⌜ r ≡ number (newCall total (now (reader .entry))) ⌝ }
-    ensures { λ _. ⌜ now (reader .exit) ≡ listAfter readerWords (newCall total (now (reader .entry))) (now (reader .entry)) ⌝ }
+    ensures { λ r. ⌜ NewPromise total reader r ⌝ }
 {
     if reader.len() < READER_WORDS {
         return LIST_FULL;
@@ -105,9 +90,7 @@ pub extern "C" fn usn_reader_new(total: u64, reader: &mut [u64]) -> u32
 // 11 the buffer is not 65536 long, 9 the numbers cannot be a window's.
 #[no_mangle]
 pub extern "C" fn usn_reader_next(reader: &mut [u64], buffer: &[u8], out: &mut [u64]) -> u32
-    ensures { λ r. ⌜ r ≡ number (nextCall (now (reader .entry)) (now (buffer .entry)) (now (out .entry))) ⌝ }
-    ensures { λ _. ⌜ now (reader .exit) ≡ listAfter windowWords (nextCall (now (reader .entry)) (now (buffer .entry)) (now (out .entry))) (now (reader .entry)) ⌝ }
-    ensures { λ _. ⌜ now (out .exit) ≡ listAfter readingWords (nextCall (now (reader .entry)) (now (buffer .entry)) (now (out .entry))) (now (out .entry)) ⌝ }
+    ensures { λ r. ⌜ NextPromise reader buffer out r ⌝ }
 {
     if reader.len() < READER_WORDS {
         return LIST_FULL;
@@ -129,10 +112,7 @@ pub extern "C" fn usn_reader_give(
     bytes: &[u8],
     out: &mut [u64],
 ) -> u32
-    ensures { λ r. ⌜ r ≡ number (giveCall (now (reader .entry)) (now (buffer .entry)) (now (bytes .entry)) (now (out .entry))) ⌝ }
-    ensures { λ _. ⌜ now (reader .exit) ≡ listAfter windowWords (giveCall (now (reader .entry)) (now (buffer .entry)) (now (bytes .entry)) (now (out .entry))) (now (reader .entry)) ⌝ }
-    ensures { λ _. ⌜ now (buffer .exit) ≡ giveBuffer (now (reader .entry)) (now (buffer .entry)) (now (bytes .entry)) (now (out .entry)) ⌝ }
-    ensures { λ _. ⌜ now (out .exit) ≡ listAfter readingWords (giveCall (now (reader .entry)) (now (buffer .entry)) (now (bytes .entry)) (now (out .entry))) (now (out .entry)) ⌝ }
+    ensures { λ r. ⌜ GivePromise reader buffer bytes out r ⌝ }
 {
     if reader.len() < READER_WORDS {
         return LIST_FULL;
@@ -150,9 +130,7 @@ pub extern "C" fn usn_reader_give(
 // each record.
 #[no_mangle]
 pub extern "C" fn usn_carve_records(extract: &[u8], list: &mut [usize], out: &mut [u64]) -> u32
-    ensures { λ r. ⌜ r ≡ number (carveCall (now (extract .entry)) (now (list .entry)) (now (out .entry))) ⌝ }
-    ensures { λ _. ⌜ now (list .exit) ≡ listAfter (carvedWords (now (extract .entry))) (carveCall (now (extract .entry)) (now (list .entry)) (now (out .entry))) (now (list .entry)) ⌝ }
-    ensures { λ _. ⌜ now (out .exit) ≡ listAfter statsWords (carveCall (now (extract .entry)) (now (list .entry)) (now (out .entry))) (now (out .entry)) ⌝ }
+    ensures { λ r. ⌜ CarvePromise extract list out r ⌝ }
 {
     if out.len() < STATS_WORDS {
         return LIST_FULL;

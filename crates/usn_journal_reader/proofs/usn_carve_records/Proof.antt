@@ -1,12 +1,11 @@
 -- Too few words are refused first; otherwise carving's equations say what goes out.
 use borrow.Author.Needs.{needs}
-use denote.Ref.{now}
-use Rattle.usn_answers.proofs.AnswerLaws.{out-same, both-short, both-answered}
+use Rattle.usn_answers.proofs.AnswerLaws.{out-same, lists-short, lists-answered}
 use Rattle.usn_journal_reader.proofs.usn_carve_records.Statement.{statement}
 use Rattle.usn_journal_reader.proofs.usn_carve_records.Tie as tie
 
 returns : tie.Need-returns
-returns c = both-short _ _ _ _ _ (now (c .before .before .before .before .args .out)) (c .if1 .taken)
+returns c = lists-short _ _ _ _ _ _ (c .if1 .taken)
 
 carve-usn-records-requires : tie.Need-carve-usn-records-requires
 carve-usn-records-requires c κs = search needs
@@ -21,7 +20,7 @@ same-length-2 : tie.Need-same-length-2
 same-length-2 c = search needs
 
 returns-2 : tie.Need-returns-2
-returns-2 c = both-answered _ _ _ _ _ (now (c .before .before .before .before .before .before .before .before .before .before .before .before .args .out)) (c .before .before .before .before .before .before .before .before .if1 .left) (c .before .before .before .before .before .before .carve-usn-records .ensures .1) (out-same (record { answer = c .before .before .put-stats .ensures .0; list = c .before .before .put-stats .ensures .1 }) (c .before .before .before .before .before .before .carve-usn-records .ensures .0))
+returns-2 c = lists-answered _ _ _ _ _ _ (c .before .before .before .before .before .before .before .before .if1 .left) (c .before .before .before .before .before .before .carve-usn-records .ensures .places) (out-same (c .before .before .put-stats .ensures) (c .before .before .before .before .before .before .carve-usn-records .ensures .answer))
 
 pub usn-carve-records-spec : {M : Type 1} → statement M
 usn-carve-records-spec =

@@ -1,8 +1,6 @@
 -- The answer goes out by its own equation.
 use borrow.Author.Needs.{needs}
-use denote.Ref.{now}
 use Rattle.usn_answers.proofs.RecordLaws.{record-parsed}
-use Rattle.usn_answers.proofs.AnswerLaws.{out-one}
 use Rattle.usn_journal_reader.proofs.usn_parse_record_v3.Statement.{statement}
 use Rattle.usn_journal_reader.proofs.usn_parse_record_v3.Tie as tie
 
@@ -16,7 +14,7 @@ same-length : tie.Need-same-length
 same-length c = search needs
 
 returns : tie.Need-returns
-returns c = out-one (record-parsed (now (c .before .before .before .before .before .before .before .args .words)) (record { answer = c .before .before .put-record .ensures .0; list = c .before .before .put-record .ensures .1 }) (c .before .before .before .before .parse-usn-record-v3 .ensures))
+returns c = record-parsed _ (c .before .before .put-record .ensures) (c .before .before .before .before .parse-usn-record-v3 .ensures)
 
 pub usn-parse-record-v3-spec : {M : Type 1} → statement M
 usn-parse-record-v3-spec =

@@ -1,15 +1,14 @@
 -- Lists that are too short are refused first; otherwise the window's equations say what goes out.
 use borrow.Author.Needs.{needs}
-use denote.Ref.{now}
 use Rattle.usn_journal_reader.proofs.WindowLaws.{short-reader, short-out, give-refused, give-answers}
 use Rattle.usn_journal_reader.proofs.usn_reader_give.Statement.{statement}
 use Rattle.usn_journal_reader.proofs.usn_reader_give.Tie as tie
 
 returns : tie.Need-returns
-returns c = give-refused _ _ (now (c .before .before .before .before .before .args .bytes)) (now (c .before .before .before .before .before .args .out)) (short-reader _ _ _ (c .if1 .taken))
+returns c = give-refused _ _ _ _ (short-reader _ _ _ (c .if1 .taken))
 
 returns-2 : tie.Need-returns-2
-returns-2 c = give-refused _ _ (now (c .before .before .before .before .before .before .args .bytes)) (now (c .before .before .before .before .before .before .args .out)) (short-out _ _ _ (c .before .if1 .left) (c .if2 .taken))
+returns-2 c = give-refused _ _ _ _ (short-out _ _ _ (c .before .if1 .left) (c .if2 .taken))
 
 reader-of-requires : tie.Need-reader-of-requires
 reader-of-requires c κs = search needs
@@ -30,7 +29,7 @@ same-length-3 : tie.Need-same-length-3
 same-length-3 c = search needs
 
 returns-3 : tie.Need-returns-3
-returns-3 c = give-answers (now (c .before .before .before .before .before .before .before .before .before .before .before .before .before .before .before .before .before .before .before .args .reader)) (now (c .before .before .before .before .before .before .before .before .before .before .before .before .before .before .before .before .before .before .before .args .buffer)) (now (c .before .before .before .before .before .before .before .before .before .before .before .before .before .before .before .before .before .before .before .args .bytes)) (now (c .before .before .before .before .before .before .before .before .before .before .before .before .before .before .before .before .before .before .before .args .out)) (c .before .before .before .before .before .before .before .before .before .before .before .before .before .before .if1 .left) (c .before .before .before .before .before .before .before .before .before .before .before .before .before .if2 .left) (c .before .before .before .before .before .before .before .before .before .before .before .reader-of .ensures) (c .before .before .before .before .before .before .before .before .before .give .ensures .0) (c .before .before .before .before .before .before .before .before .before .give .ensures .1) (c .before .before .before .before .put-reading .ensures)
+returns-3 c = give-answers _ _ _ _ (c .before .before .before .before .before .before .before .before .before .before .before .before .before .before .if1 .left) (c .before .before .before .before .before .before .before .before .before .before .before .before .before .if2 .left) (c .before .before .before .before .before .before .before .before .before .before .before .reader-of .ensures) (c .before .before .before .before .before .before .before .before .before .give .ensures .answer) (c .before .before .before .before .before .before .before .before .before .give .ensures .filled) (c .before .before .before .before .put-reading .ensures)
 
 pub usn-reader-give-spec : {M : Type 1} → statement M
 usn-reader-give-spec =

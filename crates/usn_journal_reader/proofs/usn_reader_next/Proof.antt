@@ -1,16 +1,15 @@
 -- Lists that are too short are refused first; otherwise the window's equation says what goes out.
 use borrow.Author.Needs.{needs}
-use denote.Ref.{now}
 use Rattle.usn_answers.proofs.WindowLaws.{told-refused}
 use Rattle.usn_journal_reader.proofs.WindowLaws.{short-reader, short-out, next-answers}
 use Rattle.usn_journal_reader.proofs.usn_reader_next.Statement.{statement}
 use Rattle.usn_journal_reader.proofs.usn_reader_next.Tie as tie
 
 returns : tie.Need-returns
-returns c = told-refused (now (c .before .before .before .before .args .reader)) (now (c .before .before .before .before .args .out)) (short-reader _ _ _ (c .if1 .taken))
+returns c = told-refused _ _ (short-reader _ _ _ (c .if1 .taken))
 
 returns-2 : tie.Need-returns-2
-returns-2 c = told-refused (now (c .before .before .before .before .before .args .reader)) (now (c .before .before .before .before .before .args .out)) (short-out _ _ _ (c .before .if1 .left) (c .if2 .taken))
+returns-2 c = told-refused _ _ (short-out _ _ _ (c .before .if1 .left) (c .if2 .taken))
 
 reader-of-requires : tie.Need-reader-of-requires
 reader-of-requires c κs = search needs
@@ -28,7 +27,7 @@ same-length-2 : tie.Need-same-length-2
 same-length-2 c = search needs
 
 returns-3 : tie.Need-returns-3
-returns-3 c = next-answers (now (c .before .before .before .before .before .before .before .before .before .before .before .before .before .before .before .args .reader)) (now (c .before .before .before .before .before .before .before .before .before .before .before .before .before .before .before .args .buffer)) (now (c .before .before .before .before .before .before .before .before .before .before .before .before .before .before .before .args .out)) (c .before .before .before .before .before .before .before .before .before .before .before .if1 .left) (c .before .before .before .before .before .before .before .before .before .before .if2 .left) (c .before .before .before .before .before .before .before .before .reader-of .ensures) (c .before .before .before .before .before .before .before .next .ensures) (c .before .before .before .before .put-reading .ensures)
+returns-3 c = next-answers _ _ _ (c .before .before .before .before .before .before .before .before .before .before .before .if1 .left) (c .before .before .before .before .before .before .before .before .before .before .if2 .left) (c .before .before .before .before .before .before .before .before .reader-of .ensures) (c .before .before .before .before .before .before .before .next .ensures) (c .before .before .before .before .put-reading .ensures)
 
 pub usn-reader-next-spec : {M : Type 1} → statement M
 usn-reader-next-spec =

@@ -11,25 +11,25 @@ refusal-requires : tie.Need-refusal-requires
 refusal-requires c κs = search needs
 
 returns : tie.Need-returns
-returns c = give-refused (now (c .before .before .before .before .args .buffer)) (now (c .before .before .before .before .args .bytes)) _ (c .before .refusal .ensures) (c .if1 .taken)
+returns c = give-refused _ _ _ (c .before .refusal .ensures) (c .if1 .taken)
 
 wanted-requires : tie.Need-wanted-requires
 wanted-requires c κs = sound _ _ (c .before .refusal .ensures) (omega arith) .fits
 
 returns-2 : tie.Need-returns-2
-returns-2 c = give-too-many (now (c .before .before .before .before .before .before .args .buffer)) (now (c .before .before .before .before .before .before .args .bytes)) _ (c .before .before .before .refusal .ensures) (omega arith) (c .before .wanted .ensures) (omega arith)
+returns-2 c = give-too-many _ _ _ (c .before .before .before .refusal .ensures) (omega arith) (c .before .wanted .ensures) (omega arith)
 
 asking-requires : tie.Need-asking-requires
 asking-requires c κs = sound _ _ (c .before .before .before .before .before .refusal .ensures) (omega arith) .fits
 
 returns-3 : tie.Need-returns-3
-returns-3 c = give-nothing (now (c .before .before .before .before .before .before .before .before .before .args .buffer)) (now (c .before .before .before .before .before .before .before .before .before .args .bytes)) _ (c .before .before .before .before .before .before .refusal .ensures) (omega arith) (c .before .before .before .before .wanted .ensures) (omega arith) (omega arith) (omega arith) (c .asking .ensures)
+returns-3 c = give-nothing _ _ _ (c .before .before .before .before .before .before .refusal .ensures) (omega arith) (c .before .before .before .before .wanted .ensures) (omega arith) (omega arith) (omega arith) (c .asking .ensures)
 
 finish-requires : tie.Need-finish-requires
 finish-requires c κs = search needs
 
 returns-4 : tie.Need-returns-4
-returns-4 c = give-end (now (c .before .before .before .before .before .before .before .before .before .args .buffer)) (now (c .before .before .before .before .before .before .before .before .before .args .bytes)) _ (c .before .before .before .before .before .before .refusal .ensures) (omega arith) (c .before .before .before .before .wanted .ensures) (omega arith) (omega arith) (c .before .if4 .left) (c .finish .ensures)
+returns-4 c = give-end _ _ _ (c .before .before .before .before .before .before .refusal .ensures) (omega arith) (c .before .before .before .before .wanted .ensures) (omega arith) (omega arith) (c .before .if4 .left) (c .finish .ensures)
 
 put-bytes-requires : tie.Need-put-bytes-requires
 put-bytes-requires c κs = let s = sound _ _ (c .before .before .before .before .before .refusal .ensures) (omega arith) in let k = give-fits (now (c .before .before .before .before .before .before .before .before .args .buffer)) (now (c .before .before .before .before .before .before .before .before .args .bytes)) _ (c .before .before .before .before .before .refusal .ensures) (omega arith) (c .before .before .before .wanted .ensures) (omega arith) in omega (arith, s .buffer, end-of _ (s .ends) .near)
@@ -44,7 +44,7 @@ same-length : tie.Need-same-length
 same-length c = search needs
 
 returns-5 : tie.Need-returns-5
-returns-5 c = give-bytes (now (c .before .before .before .before .before .before .before .before .before .before .before .before .before .args .buffer)) (now (c .before .before .before .before .before .before .before .before .before .before .before .before .before .args .bytes)) _ (c .before .before .before .before .before .before .before .before .before .before .refusal .ensures) (omega arith) (c .before .before .before .before .before .before .before .before .wanted .ensures) (omega arith) (c .before .before .before .before .before .before .if3 .left) (c .before .before .before .before .put-bytes .ensures) (c .before .fed .ensures) (c .asking2 .ensures)
+returns-5 c = give-bytes _ _ _ (c .before .before .before .before .before .before .before .before .before .before .refusal .ensures) (omega arith) (c .before .before .before .before .before .before .before .before .wanted .ensures) (omega arith) (c .before .before .before .before .before .before .if3 .left) (c .before .before .before .before .put-bytes .ensures) (c .before .fed .ensures) (c .asking2 .ensures)
 
 pub give-spec : {M : Type 1} → statement M
 give-spec =
