@@ -5,7 +5,8 @@ use mathlib.Core.List.{List, [], _∷_}
 use lib.ListN.{length}
 use lib.Seq.{sets}
 use Rattle.usn_answers.specs.Journal.{countWords}
-use Rattle.usn_answers.proofs.AnswerLaws.{Out, out-answered}
+use Rattle.usn_answers.specs.Promise.{Answers}
+use Rattle.usn_answers.proofs.AnswerLaws.{out-answered}
 use Rattle.mft_carver.specs.Carve.{statsWords}
 use Rattle.mft_carver.specs.Carve.{outcome as carvingOutcome}
 use Rattle.mft_carver.specs.declared.MftCarving.{MftCarving}
@@ -31,23 +32,23 @@ use Rattle.utf16.specs.declared.Decoded.{Decoded}
 use Rattle.utf16.specs.declared.Decoded.the-variants.{Text}
 
 pub stats-answered : (y : MftCarving) (l : List ℕ) {stats : MftCarvingStats} → y ≡ Carved stats → 4 ≤ length l → {row m : List ℕ}
-    → row ≡ statsWords stats → m ≡ sets l 0 row → Out statsWords (carvingOutcome y) l m 0
+    → row ≡ statsWords stats → m ≡ sets l 0 row → Answers statsWords (carvingOutcome y) l 0 m
 stats-answered y l e h f g = out-answered statsWords l (ap carvingOutcome e) h f g
 
 pub length-answered : (y : Decoded) (l : List ℕ) {n : ℕ} → y ≡ Text n → 1 ≤ length l → {m : List ℕ} → m ≡ sets l 0 (n ∷ [])
-    → Out countWords (decodingOutcome y) l m 0
+    → Answers countWords (decodingOutcome y) l 0 m
 length-answered y l e h g = out-answered countWords l (ap decodingOutcome e) h refl g
 
 pub used-answered : (y : Stored) (l : List ℕ) {n : ℕ} → y ≡ Used n → 1 ≤ length l → {m : List ℕ} → m ≡ sets l 0 (n ∷ [])
-    → Out countWords (storingOutcome y) l m 0
+    → Answers countWords (storingOutcome y) l 0 m
 used-answered y l e h g = out-answered countWords l (ap storingOutcome e) h refl g
 
 pub chain-answered : (y : ChainAnswer) (l : List ℕ) {p : ResolvedPath} → y ≡ Resolved p → 4 ≤ length l → {row m : List ℕ}
-    → row ≡ resolvedWords p → m ≡ sets l 0 row → Out resolvedWords (chainOutcome y) l m 0
+    → row ≡ resolvedWords p → m ≡ sets l 0 row → Answers resolvedWords (chainOutcome y) l 0 m
 chain-answered y l e h f g = out-answered resolvedWords l (ap chainOutcome e) h f g
 
 pub path-answered : (y : PathAnswer) (l : List ℕ) {p : ResolvedPath} {n : ℕ} → y ≡ Path p n → 5 ≤ length l → {row m : List ℕ}
-    → row ≡ toldWords (record { path = p; text = n }) → m ≡ sets l 0 row → Out toldWords (pathOutcome y) l m 0
+    → row ≡ toldWords (record { path = p; text = n }) → m ≡ sets l 0 row → Answers toldWords (pathOutcome y) l 0 m
 path-answered y l e h f g = out-answered toldWords l (ap pathOutcome e) h f g
 
 -- the numbers of an end in a row

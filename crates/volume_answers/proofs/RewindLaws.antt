@@ -7,7 +7,8 @@ use lib.ListN.{length}
 use lib.Seq.{sets}
 use Rattle.walk.specs.Outcome.{Outcome, answered}
 use Rattle.walk.proofs.ListLaws.{sets-append}
-use Rattle.usn_answers.proofs.AnswerLaws.{One, Out, out-one, out-answered}
+use Rattle.usn_answers.specs.Promise.{Answers}
+use Rattle.usn_answers.proofs.AnswerLaws.{out-answered}
 use Rattle.chain.specs.declared.ResolvedPath.{ResolvedPath}
 use Rattle.rewind.specs.Starting.{startOutcome}
 use Rattle.rewind_records.specs.Turning.{Next, ended, next}
@@ -24,33 +25,33 @@ use Rattle.volume_answers.specs.Path.{resolvedWords, toldWords}
 use Rattle.volume_answers.specs.Rewind.{rewindWords, nextWords}
 
 pub start-answered : (y : Started) (l : List ℕ) {r : Rewind} → y ≡ Begun r → 2 ≤ length l → {row m : List ℕ} → row ≡ rewindWords r
-    → m ≡ sets l 0 row → Out rewindWords (startOutcome y) l m 0
+    → m ≡ sets l 0 row → Answers rewindWords (startOutcome y) l 0 m
 start-answered y l e h f g = out-answered rewindWords l (ap startOutcome e) h f g
 
 -- an answer of a step: the kind and the state go to the front, and what a record tells after them
 module _ {A : Type 0} (words : A → List ℕ) (w : Rewind) (l : List ℕ) {x : Outcome (Next A)} where
-  pub ended-answered : x ≡ answered ended → 3 ≤ length l → {m : List ℕ} → m ≡ sets l 0 (0 ∷ rewindWords w) → Out (nextWords words w) x l m 0
+  pub ended-answered : x ≡ answered ended → 3 ≤ length l → {m : List ℕ} → m ≡ sets l 0 (0 ∷ rewindWords w) → Answers (nextWords words w) x l 0 m
   ended-answered e h g = out-answered (nextWords words w) l e h refl g
 
   pub record-answered : {a : A} → x ≡ answered (next a) → length (nextWords words w (next a)) ≤ length l → {m n row : List ℕ}
-      → m ≡ sets l 0 (1 ∷ rewindWords w) → row ≡ words a → n ≡ sets m 3 row → Out (nextWords words w) x l n 0
+      → m ≡ sets l 0 (1 ∷ rewindWords w) → row ≡ words a → n ≡ sets m 3 row → Answers (nextWords words w) x l 0 n
   record-answered {a} e h p q g =
       out-answered (nextWords words w) l e h refl (g ∙ rw (p, q) (sym (sets-append l 0 (1 ∷ rewindWords w) (words a))))
 
 -- the answer by its case, without text
 module _ (y : NextChain) (w : Rewind) (l : List ℕ) (h : 7 ≤ length l) where
-  pub chain-ended : y ≡ chain.End → {m : List ℕ} → m ≡ sets l 0 (0 ∷ rewindWords w) → One (nextWords resolvedWords w) (stepOutcome y) l m 0
-  chain-ended e g = out-one (ended-answered resolvedWords w l (ap stepOutcome e) (omega arith) g)
+  pub chain-ended : y ≡ chain.End → {m : List ℕ} → m ≡ sets l 0 (0 ∷ rewindWords w) → Answers (nextWords resolvedWords w) (stepOutcome y) l 0 m
+  chain-ended e g = ended-answered resolvedWords w l (ap stepOutcome e) (omega arith) g
 
   pub chain-record : {p : ResolvedPath} → y ≡ chain.Record p → {m n row : List ℕ} → m ≡ sets l 0 (1 ∷ rewindWords w) → row ≡ resolvedWords p
-      → n ≡ sets m 3 row → One (nextWords resolvedWords w) (stepOutcome y) l n 0
-  chain-record e p q g = out-one (record-answered resolvedWords w l (ap stepOutcome e) h p q g)
+      → n ≡ sets m 3 row → Answers (nextWords resolvedWords w) (stepOutcome y) l 0 n
+  chain-record e p q g = record-answered resolvedWords w l (ap stepOutcome e) h p q g
 
 -- and with it
 module _ (y : NextPath) (w : Rewind) (l : List ℕ) (h : 8 ≤ length l) where
-  pub path-ended : y ≡ path.End → {m : List ℕ} → m ≡ sets l 0 (0 ∷ rewindWords w) → One (nextWords toldWords w) (toldOutcome y) l m 0
-  path-ended e g = out-one (ended-answered toldWords w l (ap toldOutcome e) (omega arith) g)
+  pub path-ended : y ≡ path.End → {m : List ℕ} → m ≡ sets l 0 (0 ∷ rewindWords w) → Answers (nextWords toldWords w) (toldOutcome y) l 0 m
+  path-ended e g = ended-answered toldWords w l (ap toldOutcome e) (omega arith) g
 
   pub path-record : {p : ResolvedPath} {k : ℕ} → y ≡ path.Record p k → {m n row : List ℕ} → m ≡ sets l 0 (1 ∷ rewindWords w)
-      → row ≡ toldWords (record { path = p; text = k }) → n ≡ sets m 3 row → One (nextWords toldWords w) (toldOutcome y) l n 0
-  path-record e p q g = out-one (record-answered toldWords w l (ap toldOutcome e) h p q g)
+      → row ≡ toldWords (record { path = p; text = k }) → n ≡ sets m 3 row → Answers (nextWords toldWords w) (toldOutcome y) l 0 n
+  path-record e p q g = record-answered toldWords w l (ap toldOutcome e) h p q g

@@ -2,8 +2,7 @@
 ghost use mathlib.Core.Path.{_≡_};
 ghost use Prim.Native.Nat.{_≤_};
 ghost use lib.ListN.{length};
-ghost use Rattle.walk.specs.Lists.{listAfter};
-ghost use Rattle.usn_answers.specs.Answers.{number};
+ghost use Rattle.usn_answers.specs.Promise.{AnswerPromise};
 ghost use Rattle.usn_answers.specs.Journal.{countWords};
 ghost use Rattle.mft_carver.specs.Carve.{statsWords};
 ghost use Rattle.mft_carver.specs.Carve.{outcome as carvingOutcome};
@@ -25,8 +24,7 @@ pub const USED_WORDS: usize = 1;
 // Carving's answer: 0 with the counters in front of the lent words, or the refusal.
 pub fn put_stats(carving: MftCarving, out: &mut [u64]) -> u32
     requires { ⌜ 4 ≤ length (now out) ⌝ }
-    ensures { λ r. ⌜ r ≡ number (carvingOutcome carving) ⌝ }
-    ensures { λ _. ⌜ now (out .exit) ≡ listAfter statsWords (carvingOutcome carving) (now (out .entry)) ⌝ }
+    ensures { λ r. ⌜ AnswerPromise statsWords (carvingOutcome carving) out r ⌝ }
 {
     match carving {
         MftCarving::Carved(stats) => {
@@ -53,8 +51,7 @@ fn stats_row(stats: MftCarvingStats) -> [u64; 4]
 // Decoding's answer: 0 with the text's length as the first of the lent words, or the refusal.
 pub fn put_length(decoded: Decoded, out: &mut [u64]) -> u32
     requires { ⌜ 1 ≤ length (now out) ⌝ }
-    ensures { λ r. ⌜ r ≡ number (decodingOutcome decoded) ⌝ }
-    ensures { λ _. ⌜ now (out .exit) ≡ listAfter countWords (decodingOutcome decoded) (now (out .entry)) ⌝ }
+    ensures { λ r. ⌜ AnswerPromise countWords (decodingOutcome decoded) out r ⌝ }
 {
     match decoded {
         Decoded::Text(n) => {
@@ -68,8 +65,7 @@ pub fn put_length(decoded: Decoded, out: &mut [u64]) -> u32
 // Storing's answer: 0 with the used slots as the first of the lent words, or the refusal.
 pub fn put_used(stored: Stored, out: &mut [u64]) -> u32
     requires { ⌜ 1 ≤ length (now out) ⌝ }
-    ensures { λ r. ⌜ r ≡ number (storingOutcome stored) ⌝ }
-    ensures { λ _. ⌜ now (out .exit) ≡ listAfter countWords (storingOutcome stored) (now (out .entry)) ⌝ }
+    ensures { λ r. ⌜ AnswerPromise countWords (storingOutcome stored) out r ⌝ }
 {
     match stored {
         Stored::Used(used) => {

@@ -2,8 +2,7 @@
 ghost use mathlib.Core.Path.{_≡_};
 ghost use Prim.Native.Nat.{_≤_};
 ghost use lib.ListN.{length};
-ghost use Rattle.walk.specs.Lists.{listAfter};
-ghost use Rattle.usn_answers.specs.Answers.{number};
+ghost use Rattle.usn_answers.specs.Promise.{AnswerPromise};
 ghost use Rattle.chain.specs.Tracing.{outcome as chainOutcome};
 ghost use Rattle.path.specs.Telling.{outcome as pathOutcome};
 ghost use Rattle.volume_answers.specs.Path.{endNumbers, resolvedWords, toldWords};
@@ -28,8 +27,7 @@ pub struct EndNumbers {
 // A path without text: 0 with its words in front of the lent ones, or the refusal.
 pub fn put_chain(answer: ChainAnswer, out: &mut [u64]) -> u32
     requires { ⌜ 4 ≤ length (now out) ⌝ }
-    ensures { λ r. ⌜ r ≡ number (chainOutcome answer) ⌝ }
-    ensures { λ _. ⌜ now (out .exit) ≡ listAfter resolvedWords (chainOutcome answer) (now (out .entry)) ⌝ }
+    ensures { λ r. ⌜ AnswerPromise resolvedWords (chainOutcome answer) out r ⌝ }
 {
     match answer {
         ChainAnswer::Resolved(path) => {
@@ -44,8 +42,7 @@ pub fn put_chain(answer: ChainAnswer, out: &mut [u64]) -> u32
 // A path with text, likewise.
 pub fn put_path(answer: PathAnswer, out: &mut [u64]) -> u32
     requires { ⌜ 5 ≤ length (now out) ⌝ }
-    ensures { λ r. ⌜ r ≡ number (pathOutcome answer) ⌝ }
-    ensures { λ _. ⌜ now (out .exit) ≡ listAfter toldWords (pathOutcome answer) (now (out .entry)) ⌝ }
+    ensures { λ r. ⌜ AnswerPromise toldWords (pathOutcome answer) out r ⌝ }
 {
     match answer {
         PathAnswer::Path { path, text } => {

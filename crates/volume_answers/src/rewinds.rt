@@ -4,8 +4,7 @@ ghost use mathlib.Core.List.{_∷_};
 ghost use Prim.Native.Nat.{_≤_};
 ghost use lib.ListN.{length};
 ghost use lib.Seq.{sets};
-ghost use Rattle.walk.specs.Lists.{listAfter};
-ghost use Rattle.usn_answers.specs.Answers.{number};
+ghost use Rattle.usn_answers.specs.Promise.{AnswerPromise};
 ghost use Rattle.rewind.specs.Starting.{startOutcome};
 ghost use Rattle.rewind.specs.Stepping.{outcome as stepOutcome};
 ghost use Rattle.rewind.specs.Telling.{toldOutcome};
@@ -36,8 +35,7 @@ const KIND_RECORD: u64 = 1;
 // A start's answer: 0 with the state in front of the lent words, or the refusal.
 pub fn put_start(started: Started, out: &mut [u64]) -> u32
     requires { ⌜ 2 ≤ length (now out) ⌝ }
-    ensures { λ r. ⌜ r ≡ number (startOutcome started) ⌝ }
-    ensures { λ _. ⌜ now (out .exit) ≡ listAfter rewindWords (startOutcome started) (now (out .entry)) ⌝ }
+    ensures { λ r. ⌜ AnswerPromise rewindWords (startOutcome started) out r ⌝ }
 {
     match started {
         Started::Begun(rewind) => {
@@ -52,8 +50,7 @@ pub fn put_start(started: Started, out: &mut [u64]) -> u32
 // A step's answer without text: 0 with its words in front of the lent ones, or the refusal.
 pub fn put_chain_step(step: ChainStep, out: &mut [u64]) -> u32
     requires { ⌜ 7 ≤ length (now out) ⌝ }
-    ensures { λ r. ⌜ r ≡ number (stepOutcome (step .next)) ⌝ }
-    ensures { λ _. ⌜ now (out .exit) ≡ listAfter (nextWords resolvedWords (step .rewind)) (stepOutcome (step .next)) (now (out .entry)) ⌝ }
+    ensures { λ r. ⌜ AnswerPromise (nextWords resolvedWords (step .rewind)) (stepOutcome (step .next)) out r ⌝ }
 {
     let rewind = step.rewind;
     let next = step.next;
@@ -75,8 +72,7 @@ pub fn put_chain_step(step: ChainStep, out: &mut [u64]) -> u32
 // A step's answer with text, likewise.
 pub fn put_path_step(step: PathStep, out: &mut [u64]) -> u32
     requires { ⌜ 8 ≤ length (now out) ⌝ }
-    ensures { λ r. ⌜ r ≡ number (toldOutcome (step .next)) ⌝ }
-    ensures { λ _. ⌜ now (out .exit) ≡ listAfter (nextWords toldWords (step .rewind)) (toldOutcome (step .next)) (now (out .entry)) ⌝ }
+    ensures { λ r. ⌜ AnswerPromise (nextWords toldWords (step .rewind)) (toldOutcome (step .next)) out r ⌝ }
 {
     let rewind = step.rewind;
     let next = step.next;

@@ -1,7 +1,5 @@
 -- The counters' words, or the refusal.
 use borrow.Author.Needs.{needs}
-use denote.Ref.{now}
-use Rattle.usn_answers.proofs.AnswerLaws.{out-one}
 use Rattle.volume_answers.proofs.AnswerLaws.{stats-answered}
 use Rattle.volume_answers.proofs.answers.put_stats.Statement.{statement}
 use Rattle.volume_answers.proofs.answers.put_stats.Tie as tie
@@ -25,10 +23,10 @@ same-length : tie.Need-same-length
 same-length c = search needs
 
 returns : tie.Need-returns
-returns c = out-one (stats-answered _ (now (c .before .before .before .before .before .before .before .before .before .before .args .out)) (c .before .before .before .before .before .before .before .carving .given .1) (c .before .before .before .before .before .before .before .before .before .before .pre) (c .before .before .before .before .before .stats-row .ensures) (c .before .before .put-words .ensures))
+returns c = stats-answered _ _ (c .before .before .before .before .before .before .before .carving .given .1) (c .before .before .before .before .before .before .before .before .before .before .pre) (c .before .before .before .before .before .stats-row .ensures) (c .before .before .put-words .ensures)
 
 returns-2 : tie.Need-returns-2
-returns-2 c = search needs
+returns-2 c = record { answer = search needs; row = search needs }
 
 pub put-stats-spec : {M : Type 1} → statement M
 put-stats-spec =

@@ -1,6 +1,5 @@
 -- A list of one word, or the refusal.
 use borrow.Author.Needs.{needs}
-use Rattle.usn_answers.proofs.AnswerLaws.{out-one}
 use Rattle.volume_answers.proofs.AnswerLaws.{used-answered}
 use mathlib.Core.Path.{refl}
 use Rattle.volume_answers.proofs.answers.put_used.Statement.{statement}
@@ -19,10 +18,10 @@ same-length : tie.Need-same-length
 same-length c = search needs
 
 returns : tie.Need-returns
-returns c = out-one (used-answered _ _ (c .before .stored .given .1) (c .before .before .before .pre) refl)
+returns c = used-answered _ _ (c .before .stored .given .1) (c .before .before .before .pre) refl
 
 returns-2 : tie.Need-returns-2
-returns-2 c = search needs
+returns-2 c = record { answer = search needs; row = search needs }
 
 pub put-used-spec : {M : Type 1} → statement M
 put-used-spec =

@@ -1,6 +1,4 @@
 -- The state's words, or the refusal.
-use denote.Ref.{now}
-use Rattle.usn_answers.proofs.AnswerLaws.{out-one}
 use Rattle.volume_answers.proofs.RewindLaws.{start-answered}
 use borrow.Author.Needs.{needs}
 use Rattle.volume_answers.proofs.rewinds.put_start.Statement.{statement}
@@ -25,10 +23,10 @@ same-length : tie.Need-same-length
 same-length c = search needs
 
 returns : tie.Need-returns
-returns c = out-one (start-answered _ (now (c .before .before .before .before .before .before .before .before .before .before .args .out)) (c .before .before .before .before .before .before .before .started .given .1) (c .before .before .before .before .before .before .before .before .before .before .pre) (c .before .before .before .before .before .rewind-row .ensures) (c .before .before .put-words .ensures))
+returns c = start-answered _ _ (c .before .before .before .before .before .before .before .started .given .1) (c .before .before .before .before .before .before .before .before .before .before .pre) (c .before .before .before .before .before .rewind-row .ensures) (c .before .before .put-words .ensures)
 
 returns-2 : tie.Need-returns-2
-returns-2 c = search needs
+returns-2 c = record { answer = search needs; row = search needs }
 
 pub put-start-spec : {M : Type 1} → statement M
 put-start-spec =
