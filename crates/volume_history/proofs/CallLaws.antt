@@ -8,7 +8,8 @@ use Rattle.walk.specs.Outcome.{Outcome}
 use Rattle.walk.specs.Refusals.{listFull}
 use Rattle.usn_answers.specs.Answers.{withRoom}
 use Rattle.usn_answers.specs.Journal.{countWords}
-use Rattle.usn_answers.proofs.AnswerLaws.{Out, out-same, out-mapped, room-few, room-enough}
+use Rattle.usn_answers.specs.Promise.{Answers}
+use Rattle.usn_answers.proofs.AnswerLaws.{out-same, out-mapped, room-few, room-enough}
 use Rattle.entry_table.specs.Table.{Table}
 use Rattle.entry_table.specs.Storing.{usedAfter, wordsAfter}
 use Rattle.entry_table.specs.Storing.{outcome as storingOutcome}
@@ -23,21 +24,21 @@ module _ (x : Outcome Table) (s l : List ℕ) where
   stores-short h = let e = room-few x h in rw e (record { answer = refl; table = refl; row = refl })
 
   pub stores-answered : 1 ≤ length l → (y : Stored) → storingOutcome y ≡ usedAfter x → {t m : List ℕ} {r : ℕ} → t ≡ wordsAfter x s
-      → Out countWords (storingOutcome y) l m r → Stores (withRoom 1 (length l) x) s l r t m
-  stores-answered h y e g o = let p = out-mapped x (out-same o e) in rw (room-enough x h) (record { answer = p .answer; table = g; row = p .list })
+      → Answers countWords (storingOutcome y) l r m → Stores (withRoom 1 (length l) x) s l r t m
+  stores-answered h y e g o = let p = out-mapped x (out-same o e) in rw (room-enough x h) (record { answer = p .answer; table = g; row = p .row })
 
 -- x is the outcome where the list takes the n words
 module _ (words : Chain → List ℕ) (n : ℕ) (x : Outcome Chain) (s l : List ℕ) where
   pub traces-short : length l < n → Traces words (withRoom n (length l) x) s l listFull s l
   traces-short h = let e = room-few x h in rw e (record { answer = refl; places = refl; row = refl })
 
-  pub traces-answered : n ≤ length l → {t m : List ℕ} {r : ℕ} → t ≡ chainAfter x s → Out words x l m r → Traces words (withRoom n (length l) x) s l r t m
-  traces-answered h g o = rw (room-enough x h) (record { answer = o .answer; places = g; row = o .list })
+  pub traces-answered : n ≤ length l → {t m : List ℕ} {r : ℕ} → t ≡ chainAfter x s → Answers words x l r m → Traces words (withRoom n (length l) x) s l r t m
+  traces-answered h g o = rw (room-enough x h) (record { answer = o .answer; places = g; row = o .row })
 
 module _ (text words : Chain → List ℕ) (n : ℕ) (x : Outcome Chain) (s b l : List ℕ) where
   pub tells-short : length l < n → Tells text words (withRoom n (length l) x) s b l listFull s b l
   tells-short h = let e = room-few x h in rw e (record { answer = refl; places = refl; written = refl; row = refl })
 
-  pub tells-answered : n ≤ length l → {t d m : List ℕ} {r : ℕ} → t ≡ chainAfter x s → d ≡ listAfter text x b → Out words x l m r
+  pub tells-answered : n ≤ length l → {t d m : List ℕ} {r : ℕ} → t ≡ chainAfter x s → d ≡ listAfter text x b → Answers words x l r m
       → Tells text words (withRoom n (length l) x) s b l r t d m
-  tells-answered h g f o = rw (room-enough x h) (record { answer = o .answer; places = g; written = f; row = o .list })
+  tells-answered h g f o = rw (room-enough x h) (record { answer = o .answer; places = g; written = f; row = o .row })

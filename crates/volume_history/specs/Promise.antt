@@ -1,5 +1,5 @@
--- What the calls of the table, of paths and of rewinds promise as C calls. Each record says it of lists: what the lent slices hold before, and, with ′, after,
--- where the call comes to o.
+-- What the calls promise as C calls. Each record says it of lists: what the lent slices hold before, and, with ′, after, where the call comes to o. Carving and
+-- decoding leave an answer with a list, `Lists`, by their outcome and words.
 use Prim.Native.Nat.{ℕ}
 use mathlib.Core.Path.{_≡_}
 use mathlib.Core.List.{List}
@@ -8,13 +8,17 @@ use Rattle.walk.specs.Lent.{Lent, before, after}
 use Rattle.walk.specs.Lists.{listAfter}
 use Rattle.walk.specs.Outcome.{Outcome}
 use Rattle.usn_answers.specs.Answers.{number}
+use Rattle.usn_answers.specs.Journal.{countWords}
+use Rattle.usn_answers.specs.Promise.{ListPromise}
+use Rattle.mft_carver.specs.Carve.{statsWords}
 use Rattle.entry_table.specs.Table.{Table}
 use Rattle.entry_table.specs.Storing.{wordsAfter}
 use Rattle.entry_table.specs.declared.EntryInfo.{EntryInfo}
 use Rattle.entry_table.specs.declared.EntryKey.{EntryKey}
+use Rattle.entry_table.specs.declared.NamePlace.{NamePlace}
 use Rattle.chain.specs.Chain.{Chain, resolved}
 use Rattle.chain.specs.Tracing.{chainAfter}
-use Rattle.path.specs.Text.{pathText}
+use Rattle.path.specs.Text.{placeText, placeLength, pathText}
 use Rattle.path.specs.Telling.{told}
 use Rattle.rewind.specs.Starting.{Tables, firstAfter, forwardAfter}
 use Rattle.rewind.specs.Stepping as step
@@ -23,9 +27,25 @@ use Rattle.rewind_steps.specs.Taking.{Step}
 use Rattle.rewind_steps.specs.Telling.{nextText}
 use Rattle.rewind.specs.declared.Rewind.{Rewind}
 use Rattle.volume_answers.specs.Path.{resolvedWords, toldWords}
-use Rattle.volume_history.specs.Path.{resolveCall, chainCall}
+use Rattle.volume_history.specs.Image.{carveCall, carvedWords}
+use Rattle.volume_history.specs.Names.{decodeCall, decodedBytes}
+use Rattle.volume_history.specs.Path.{resolveCall, chainCall, placeCall}
 use Rattle.volume_history.specs.Rewind.{startCall, startWords, stepWords, chainStepWords, chainStepCall, pathStepWords, pathStepCall}
 use Rattle.volume_history.specs.Table.{insertCall, seedCall, usedWords}
+
+-- carving an image: the list is that of the entries, and the words are the counters
+abbrev pub CarveCallPromise : Lent → Lent → Lent → ℕ → Type 0
+CarveCallPromise image list out r = ListPromise (carvedWords (before image)) statsWords (carveCall (before image) (before list) (before out)) list out r
+
+-- decoding a name: the list is its text, and the word is the text's length
+abbrev pub DecodeCallPromise : Lent → Lent → Lent → ℕ → Type 0
+DecodeCallPromise bytes text out r = ListPromise (decodedBytes (before bytes)) countWords (decodeCall (before bytes) (before text) (before out)) text out r
+
+-- the name at a place, likewise
+abbrev pub PlaceCallPromise : Lent → Lent → NamePlace → Lent → Lent → ℕ → Type 0
+PlaceCallPromise journal image place text out r =
+    let o = placeCall (before journal) (before image) place (before text) (before out) in
+    ListPromise (placeText (before journal) (before image)) (λ p. countWords (placeLength (before journal) (before image) p)) o text out r
 
 -- storing: its number, the words of the table, and the word of the used slots
 pub record Stores (o : Outcome Table) (words out : List ℕ) (r : ℕ) (words′ out′ : List ℕ) : Type 0 where
@@ -33,8 +53,8 @@ pub record Stores (o : Outcome Table) (words out : List ℕ) (r : ℕ) (words′
   pub table : words′ ≡ wordsAfter o words
   pub row : out′ ≡ listAfter usedWords o out
 
-abbrev pub InsertCallPromise : Lent → Lent → Lent → ℕ → EntryKey → EntryInfo → Bool → Lent → ℕ → Type 0
-InsertCallPromise journal image slots used key info replace out r =
+abbrev pub StorePromise : Lent → Lent → Lent → ℕ → EntryKey → EntryInfo → Bool → Lent → ℕ → Type 0
+StorePromise journal image slots used key info replace out r =
     Stores (insertCall (before journal) (before image) (before slots) used key info replace (before out)) (before slots) (before out) r (after slots) (after out)
 
 abbrev pub SeedCallPromise : Lent → Lent → Lent → ℕ → Lent → Lent → ℕ → Type 0

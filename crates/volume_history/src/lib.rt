@@ -15,16 +15,8 @@
 // of its answer alone: those past them stay as they were.
 ghost use mathlib.Core.Path.{_≡_};
 ghost use mathlib.Core.Bool.{true, false};
-ghost use Rattle.walk.specs.Lists.{listAfter};
-ghost use Rattle.usn_answers.specs.Answers.{number};
-ghost use Rattle.usn_answers.specs.Journal.{countWords};
-ghost use Rattle.mft_carver.specs.Carve.{statsWords};
-ghost use Rattle.path.specs.Text.{placeText, placeLength};
 ghost use Rattle.path.specs.Telling.{place};
-ghost use Rattle.volume_history.specs.Image.{carveCall, carvedWords};
-ghost use Rattle.volume_history.specs.Names.{decodeCall, decodedBytes};
-ghost use Rattle.volume_history.specs.Path.{placeCall};
-ghost use Rattle.volume_history.specs.Promise.{InsertCallPromise, SeedCallPromise, ChainCallPromise, ResolvePromise, StartCallPromise, NextChainCallPromise, NextCallPromise};
+ghost use Rattle.volume_history.specs.Promise.{CarveCallPromise, DecodeCallPromise, PlaceCallPromise, StorePromise, SeedCallPromise, ChainCallPromise, ResolvePromise, StartCallPromise, NextChainCallPromise, NextCallPromise};
 ghost use Rattle.volume_history.specs.Rewind.{rewindOf};
 ghost use Rattle.volume_history.specs.Table.{keyOf, infoOf};
 use entry_table::EntryInfo;
@@ -56,9 +48,7 @@ use walk::LIST_FULL;
 // entry.
 #[no_mangle]
 pub extern "C" fn mft_carve_entries(image: &[u8], list: &mut [u64], out: &mut [u64]) -> u32
-    ensures { λ r. ⌜ r ≡ number (carveCall (now (image .entry)) (now (list .entry)) (now (out .entry))) ⌝ }
-    ensures { λ _. ⌜ now (list .exit) ≡ listAfter (carvedWords (now (image .entry))) (carveCall (now (image .entry)) (now (list .entry)) (now (out .entry))) (now (list .entry)) ⌝ }
-    ensures { λ _. ⌜ now (out .exit) ≡ listAfter statsWords (carveCall (now (image .entry)) (now (list .entry)) (now (out .entry))) (now (out .entry)) ⌝ }
+    ensures { λ r. ⌜ CarveCallPromise image list out r ⌝ }
 {
     if out.len() < STATS_WORDS {
         return LIST_FULL;
@@ -70,9 +60,7 @@ pub extern "C" fn mft_carve_entries(image: &[u8], list: &mut [u64], out: &mut [u
 // Answers 0, or refuses: 5 out has no word, 1 the bytes are above the domain, 8 the text is too small.
 #[no_mangle]
 pub extern "C" fn utf16_decode(bytes: &[u8], text: &mut [u8], out: &mut [u64]) -> u32
-    ensures { λ r. ⌜ r ≡ number (decodeCall (now (bytes .entry)) (now (text .entry)) (now (out .entry))) ⌝ }
-    ensures { λ _. ⌜ now (text .exit) ≡ listAfter (decodedBytes (now (bytes .entry))) (decodeCall (now (bytes .entry)) (now (text .entry)) (now (out .entry))) (now (text .entry)) ⌝ }
-    ensures { λ _. ⌜ now (out .exit) ≡ listAfter countWords (decodeCall (now (bytes .entry)) (now (text .entry)) (now (out .entry))) (now (out .entry)) ⌝ }
+    ensures { λ r. ⌜ DecodeCallPromise bytes text out r ⌝ }
 {
     if out.len() < TEXT_WORDS {
         return LIST_FULL;
@@ -99,7 +87,7 @@ pub extern "C" fn table_insert(
     length: u64,
     out: &mut [u64],
 ) -> u32
-    ensures { λ r. ⌜ InsertCallPromise journal image slots used (keyOf entry sequence) (infoOf «parent_entry» «parent_sequence» source offset length) true out r ⌝ }
+    ensures { λ r. ⌜ StorePromise journal image slots used (keyOf entry sequence) (infoOf «parent_entry» «parent_sequence» source offset length) true out r ⌝ }
 {
     if out.len() < USED_WORDS {
         return LIST_FULL;
@@ -133,7 +121,7 @@ pub extern "C" fn table_insert_if_absent(
     length: u64,
     out: &mut [u64],
 ) -> u32
-    ensures { λ r. ⌜ InsertCallPromise journal image slots used (keyOf entry sequence) (infoOf «parent_entry» «parent_sequence» source offset length) false out r ⌝ }
+    ensures { λ r. ⌜ StorePromise journal image slots used (keyOf entry sequence) (infoOf «parent_entry» «parent_sequence» source offset length) false out r ⌝ }
 {
     if out.len() < USED_WORDS {
         return LIST_FULL;
@@ -254,9 +242,7 @@ pub extern "C" fn path_decode(
     text: &mut [u8],
     out: &mut [u64],
 ) -> u32
-    ensures { λ r. ⌜ r ≡ number (placeCall (now (journal .entry)) (now (image .entry)) (place source offset length) (now (text .entry)) (now (out .entry))) ⌝ }
-    ensures { λ _. ⌜ now (text .exit) ≡ listAfter (placeText (now (journal .entry)) (now (image .entry))) (placeCall (now (journal .entry)) (now (image .entry)) (place source offset length) (now (text .entry)) (now (out .entry))) (now (text .entry)) ⌝ }
-    ensures { λ _. ⌜ now (out .exit) ≡ listAfter (λ p. countWords (placeLength (now (journal .entry)) (now (image .entry)) p)) (placeCall (now (journal .entry)) (now (image .entry)) (place source offset length) (now (text .entry)) (now (out .entry))) (now (out .entry)) ⌝ }
+    ensures { λ r. ⌜ PlaceCallPromise journal image (place source offset length) text out r ⌝ }
 {
     if out.len() < TEXT_WORDS {
         return LIST_FULL;

@@ -11,7 +11,8 @@ use Rattle.walk.proofs.ChoiceLaws.{cond-cases}
 use Rattle.walk.proofs.ListLaws.{sets-front}
 use Rattle.usn_answers.specs.Answers.{withRoom}
 use Rattle.usn_answers.specs.Journal.{countWords}
-use Rattle.usn_answers.proofs.AnswerLaws.{Out, out-same, out-mapped, room-few, room-enough}
+use Rattle.usn_answers.specs.Promise.{Answers}
+use Rattle.usn_answers.proofs.AnswerLaws.{out-same, out-mapped, room-few, room-enough}
 use Rattle.entry_table.specs.Slots.{slotsIn}
 use Rattle.entry_table.specs.Table.{Table}
 use Rattle.entry_table.specs.Storing.{outcome as storingOutcome}
@@ -39,12 +40,12 @@ module _ (x : Outcome Table) (s h n l : List ℕ) where
       rw e
       (record { store = record { answer = refl; table = refl; row = refl }; heads-are = chosen (enough (slotsIn s) h n) h; nexts-are = chosen (enough (slotsIn s) h n) n })
 
-  pub seeds-answered : 1 ≤ length l → {y : Stored} {t h′ n′ m : List ℕ} {r : ℕ} → StoresIndexed x s h n y t h′ n′ → Out countWords (storingOutcome y) l m r
+  pub seeds-answered : 1 ≤ length l → {y : Stored} {t h′ n′ m : List ℕ} {r : ℕ} → StoresIndexed x s h n y t h′ n′ → Answers countWords (storingOutcome y) l r m
       → Seeds (withRoom 1 (length l) x) s h n l r t h′ n′ m
   seeds-answered q c o =
       let p = out-mapped x (out-same o (c .store .answer)) in
       rw (room-enough x q)
-      (record { store = record { answer = p .answer; table = c .store .slots-are; row = p .list }; heads-are = c .heads-are; nexts-are = c .nexts-are })
+      (record { store = record { answer = p .answer; table = c .store .slots-are; row = p .row }; heads-are = c .heads-are; nexts-are = c .nexts-are })
 
 -- a start, likewise
 module _ (x : Outcome Tables) (s f h n l : List ℕ) where
@@ -55,9 +56,9 @@ module _ (x : Outcome Tables) (s f h n l : List ℕ) where
       (record { start = record { answer = refl; first = refl; second = refl; row = refl }; heads-are = chosen (enough (slotsIn s) h n) h; nexts-are = chosen (enough (slotsIn s) h n) n })
 
   pub starts-answered : 2 ≤ length l → {t g h′ n′ m : List ℕ} {r : ℕ} → t ≡ firstAfter x s → g ≡ forwardAfter x f → h′ ≡ headsLeft (slotsIn s) (firstOf x) h n
-      → n′ ≡ nextsLeft (slotsIn s) (firstOf x) h n → Out startWords x l m r → StartCalls (withRoom 2 (length l) x) s f h n l r t g h′ n′ m
+      → n′ ≡ nextsLeft (slotsIn s) (firstOf x) h n → Answers startWords x l r m → StartCalls (withRoom 2 (length l) x) s f h n l r t g h′ n′ m
   starts-answered q a b c d o =
-      rw (room-enough x q) (record { start = record { answer = o .answer; first = a; second = b; row = o .list }; heads-are = c; nexts-are = d })
+      rw (room-enough x q) (record { start = record { answer = o .answer; first = a; second = b; row = o .row }; heads-are = c; nexts-are = d })
 
 -- a run: too few words for its answer, or what the run itself promises
 module _ (journal image records words : List ℕ) (rewind : Rewind) (heads nexts ends text out : List ℕ) where

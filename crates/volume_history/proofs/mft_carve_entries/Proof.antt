@@ -1,12 +1,11 @@
 -- Too few words are refused first; otherwise carving's equations say what goes out.
 use borrow.Author.Needs.{needs}
-use denote.Ref.{now}
-use Rattle.usn_answers.proofs.AnswerLaws.{out-same, both-short, both-answered}
+use Rattle.usn_answers.proofs.AnswerLaws.{out-same, lists-short, lists-answered}
 use Rattle.volume_history.proofs.mft_carve_entries.Statement.{statement}
 use Rattle.volume_history.proofs.mft_carve_entries.Tie as tie
 
 returns : tie.Need-returns
-returns c = both-short _ _ _ _ _ (now (c .before .before .before .before .args .out)) (c .if1 .taken)
+returns c = lists-short _ _ _ _ _ _ (c .if1 .taken)
 
 carve-mft-entries-requires : tie.Need-carve-mft-entries-requires
 carve-mft-entries-requires c κs = search needs
@@ -21,7 +20,7 @@ same-length-2 : tie.Need-same-length-2
 same-length-2 c = search needs
 
 returns-2 : tie.Need-returns-2
-returns-2 c = both-answered _ _ _ _ _ (now (c .before .before .before .before .before .before .before .before .before .before .before .before .args .out)) (c .before .before .before .before .before .before .before .before .if1 .left) (c .before .before .before .before .before .before .carve-mft-entries .ensures .1) (out-same (record { answer = c .before .before .put-stats .ensures .0; list = c .before .before .put-stats .ensures .1 }) (c .before .before .before .before .before .before .carve-mft-entries .ensures .0))
+returns-2 c = lists-answered _ _ _ _ _ _ (c .before .before .before .before .before .before .before .before .if1 .left) (c .before .before .before .before .before .before .carve-mft-entries .ensures .places) (out-same (c .before .before .put-stats .ensures) (c .before .before .before .before .before .before .carve-mft-entries .ensures .answer))
 
 pub mft-carve-entries-spec : {M : Type 1} → statement M
 mft-carve-entries-spec =

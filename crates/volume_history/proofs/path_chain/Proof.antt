@@ -1,5 +1,4 @@
 -- Too few words are refused first; otherwise the chain's equations say what goes out.
-use denote.Ref.{now}
 use Rattle.usn_answers.proofs.AnswerLaws.{out-same, out-mapped}
 use Rattle.volume_history.proofs.CallLaws.{traces-short, traces-answered}
 use borrow.Author.Needs.{needs}
@@ -7,7 +6,7 @@ use Rattle.volume_history.proofs.path_chain.Statement.{statement}
 use Rattle.volume_history.proofs.path_chain.Tie as tie
 
 returns : tie.Need-returns
-returns c = traces-short _ _ _ _ (now (c .before .before .before .before .before .before .args .out)) (c .if1 .taken)
+returns c = traces-short _ _ _ _ _ (c .if1 .taken)
 
 path-chain-requires : tie.Need-path-chain-requires
 path-chain-requires c κs = search needs
@@ -22,7 +21,7 @@ same-length-2 : tie.Need-same-length-2
 same-length-2 c = search needs
 
 returns-2 : tie.Need-returns-2
-returns-2 c = traces-answered _ _ _ _ (now (c .before .before .before .before .before .before .before .before .before .before .before .before .before .before .args .out)) (c .before .before .before .before .before .before .before .before .if1 .left) (c .before .before .before .before .before .before .path-chain .ensures .1) (out-mapped _ (out-same (record { answer = c .before .before .put-chain .ensures .0; list = c .before .before .put-chain .ensures .1 }) (c .before .before .before .before .before .before .path-chain .ensures .0)))
+returns-2 c = traces-answered _ _ _ _ _ (c .before .before .before .before .before .before .before .before .if1 .left) (c .before .before .before .before .before .before .path-chain .ensures .1) (out-mapped _ (out-same (c .before .before .put-chain .ensures) (c .before .before .before .before .before .before .path-chain .ensures .0)))
 
 pub path-chain-spec : {M : Type 1} → statement M
 path-chain-spec =

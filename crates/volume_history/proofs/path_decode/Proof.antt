@@ -1,12 +1,11 @@
 -- Too few words are refused first; otherwise decoding's equations say what goes out.
-use denote.Ref.{now}
-use Rattle.usn_answers.proofs.AnswerLaws.{out-same, out-mapped, both-short, both-answered}
+use Rattle.usn_answers.proofs.AnswerLaws.{out-same, out-mapped, lists-short, lists-answered}
 use borrow.Author.Needs.{needs}
 use Rattle.volume_history.proofs.path_decode.Statement.{statement}
 use Rattle.volume_history.proofs.path_decode.Tie as tie
 
 returns : tie.Need-returns
-returns c = both-short _ _ _ _ _ (now (c .before .before .before .before .before .args .out)) (c .if1 .taken)
+returns c = lists-short _ _ _ _ _ _ (c .if1 .taken)
 
 decode-requires : tie.Need-decode-requires
 decode-requires c κs = search needs
@@ -21,7 +20,7 @@ same-length-2 : tie.Need-same-length-2
 same-length-2 c = search needs
 
 returns-2 : tie.Need-returns-2
-returns-2 c = both-answered _ _ _ _ _ (now (c .before .before .before .before .before .before .before .before .before .before .before .before .before .args .out)) (c .before .before .before .before .before .before .before .before .if1 .left) (c .before .before .before .before .before .before .decode .ensures .written) (out-mapped _ (out-same (record { answer = c .before .before .put-length .ensures .0; list = c .before .before .put-length .ensures .1 }) (c .before .before .before .before .before .before .decode .ensures .answer)))
+returns-2 c = lists-answered _ _ _ _ _ _ (c .before .before .before .before .before .before .before .before .if1 .left) (c .before .before .before .before .before .before .decode .ensures .written) (out-mapped _ (out-same (c .before .before .put-length .ensures) (c .before .before .before .before .before .before .decode .ensures .answer)))
 
 pub path-decode-spec : {M : Type 1} → statement M
 path-decode-spec =

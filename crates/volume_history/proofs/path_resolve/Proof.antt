@@ -24,7 +24,7 @@ same-length-3 : tie.Need-same-length-3
 same-length-3 c = search needs
 
 returns-2 : tie.Need-returns-2
-returns-2 c = tells-answered _ _ _ _ _ _ _ (c .before .before .before .before .before .before .before .before .before .before .before .if1 .left) (c .before .before .before .before .before .before .before .before .path .ensures .places) (c .before .before .before .before .before .before .before .before .path .ensures .written) (out-mapped _ (out-same (record { answer = c .before .before .put-path .ensures .0; list = c .before .before .put-path .ensures .1 }) (c .before .before .before .before .before .before .before .before .path .ensures .answer)))
+returns-2 c = tells-answered _ _ _ _ _ _ _ (c .before .before .before .before .before .before .before .before .before .before .before .if1 .left) (c .before .before .before .before .before .before .before .before .path .ensures .places) (c .before .before .before .before .before .before .before .before .path .ensures .written) (out-mapped _ (out-same (c .before .before .put-path .ensures) (c .before .before .before .before .before .before .before .before .path .ensures .answer)))
 
 pub path-resolve-spec : {M : Type 1} → statement M
 path-resolve-spec =

@@ -26,7 +26,7 @@ same-length-4 : tie.Need-same-length-4
 same-length-4 c = search needs
 
 returns-2 : tie.Need-returns-2
-returns-2 c = steps-told-answered _ _ _ _ _ _ _ _ (c .before .before .before .before .before .before .before .before .before .before .before .before .before .before .if1 .left) (c .before .before .before .before .before .before .before .before .before .before .rewind-next .ensures .forward) (c .before .before .before .before .before .before .before .before .before .before .rewind-next .ensures .places) (c .before .before .before .before .before .before .before .before .before .before .rewind-next .ensures .written) (step-out _ _ (c .before .before .before .before .before .before .before .before .before .before .rewind-next .ensures .answer) (c .before .before .before .before .before .before .before .before .before .before .rewind-next .ensures .state) (record { answer = c .before .before .put-path-step .ensures .0; list = c .before .before .put-path-step .ensures .1 }))
+returns-2 c = steps-told-answered _ _ _ _ _ _ _ _ (c .before .before .before .before .before .before .before .before .before .before .before .before .before .before .if1 .left) (c .before .before .before .before .before .before .before .before .before .before .rewind-next .ensures .forward) (c .before .before .before .before .before .before .before .before .before .before .rewind-next .ensures .places) (c .before .before .before .before .before .before .before .before .before .before .rewind-next .ensures .written) (step-out _ _ (c .before .before .before .before .before .before .before .before .before .before .rewind-next .ensures .answer) (c .before .before .before .before .before .before .before .before .before .before .rewind-next .ensures .state) (c .before .before .put-path-step .ensures))
 
 pub rewind-next-spec : {M : Type 1} → statement M
 rewind-next-spec =

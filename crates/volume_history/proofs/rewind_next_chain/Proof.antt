@@ -1,12 +1,11 @@
 -- Too few words are refused first; otherwise the step's equations say what goes out.
-use denote.Ref.{now}
 use Rattle.volume_history.proofs.RewindLaws.{step-out, steps-short, steps-answered}
 use borrow.Author.Needs.{needs}
 use Rattle.volume_history.proofs.rewind_next_chain.Statement.{statement}
 use Rattle.volume_history.proofs.rewind_next_chain.Tie as tie
 
 returns : tie.Need-returns
-returns c = steps-short _ _ _ _ _ (now (c .before .before .before .before .before .before .before .args .out)) (c .if1 .taken)
+returns c = steps-short _ _ _ _ _ _ (c .if1 .taken)
 
 rewind-next-chain-requires : tie.Need-rewind-next-chain-requires
 rewind-next-chain-requires c κs = search needs
@@ -24,7 +23,7 @@ same-length-3 : tie.Need-same-length-3
 same-length-3 c = search needs
 
 returns-2 : tie.Need-returns-2
-returns-2 c = steps-answered _ _ _ _ _ (now (c .before .before .before .before .before .before .before .before .before .before .before .before .before .before .before .before .before .before .args .out)) (c .before .before .before .before .before .before .before .before .before .before .before .if1 .left) (c .before .before .before .before .before .before .before .before .rewind-next-chain .ensures .forward) (c .before .before .before .before .before .before .before .before .rewind-next-chain .ensures .places) (step-out _ _ (c .before .before .before .before .before .before .before .before .rewind-next-chain .ensures .answer) (c .before .before .before .before .before .before .before .before .rewind-next-chain .ensures .state) (record { answer = c .before .before .put-chain-step .ensures .0; list = c .before .before .put-chain-step .ensures .1 }))
+returns-2 c = steps-answered _ _ _ _ _ _ (c .before .before .before .before .before .before .before .before .before .before .before .if1 .left) (c .before .before .before .before .before .before .before .before .rewind-next-chain .ensures .forward) (c .before .before .before .before .before .before .before .before .rewind-next-chain .ensures .places) (step-out _ _ (c .before .before .before .before .before .before .before .before .rewind-next-chain .ensures .answer) (c .before .before .before .before .before .before .before .before .rewind-next-chain .ensures .state) (c .before .before .put-chain-step .ensures))
 
 pub rewind-next-chain-spec : {M : Type 1} → statement M
 rewind-next-chain-spec =

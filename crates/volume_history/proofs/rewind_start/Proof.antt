@@ -1,5 +1,4 @@
 -- Too few words are refused first; otherwise the start's equations say what goes out.
-use denote.Ref.{now}
 use Rattle.usn_answers.proofs.AnswerLaws.{out-same, out-mapped}
 use Rattle.volume_history.proofs.RewindLaws.{starts-short, starts-answered}
 use borrow.Author.Needs.{needs}
@@ -7,7 +6,7 @@ use Rattle.volume_history.proofs.rewind_start.Statement.{statement}
 use Rattle.volume_history.proofs.rewind_start.Tie as tie
 
 returns : tie.Need-returns
-returns c = starts-short _ _ _ (now (c .before .before .before .before .before .before .before .args .out)) (c .if1 .taken)
+returns c = starts-short _ _ _ _ (c .if1 .taken)
 
 rewind-start-requires : tie.Need-rewind-start-requires
 rewind-start-requires c κs = search needs
@@ -25,7 +24,7 @@ same-length-3 : tie.Need-same-length-3
 same-length-3 c = search needs
 
 returns-2 : tie.Need-returns-2
-returns-2 c = starts-answered _ _ _ (now (c .before .before .before .before .before .before .before .before .before .before .before .before .before .before .before .before .before .before .args .out)) (c .before .before .before .before .before .before .before .before .before .before .before .if1 .left) (c .before .before .before .before .before .before .before .before .rewind-start .ensures .first) (c .before .before .before .before .before .before .before .before .rewind-start .ensures .forward) (out-mapped _ (out-same (record { answer = c .before .before .put-start .ensures .0; list = c .before .before .put-start .ensures .1 }) (c .before .before .before .before .before .before .before .before .rewind-start .ensures .answer)))
+returns-2 c = starts-answered _ _ _ _ (c .before .before .before .before .before .before .before .before .before .before .before .if1 .left) (c .before .before .before .before .before .before .before .before .rewind-start .ensures .first) (c .before .before .before .before .before .before .before .before .rewind-start .ensures .forward) (out-mapped _ (out-same (c .before .before .put-start .ensures) (c .before .before .before .before .before .before .before .before .rewind-start .ensures .answer)))
 
 pub rewind-start-spec : {M : Type 1} → statement M
 rewind-start-spec =

@@ -1,12 +1,11 @@
 -- Too few words are refused first; otherwise the table's equations say what goes out.
-use denote.Ref.{now}
 use Rattle.volume_history.proofs.CallLaws.{stores-short, stores-answered}
 use borrow.Author.Needs.{needs}
 use Rattle.volume_history.proofs.table_seed.Statement.{statement}
 use Rattle.volume_history.proofs.table_seed.Tie as tie
 
 returns : tie.Need-returns
-returns c = stores-short _ _ (now (c .before .before .before .before .before .before .args .out)) (c .if1 .taken)
+returns c = stores-short _ _ _ (c .if1 .taken)
 
 seed-requires : tie.Need-seed-requires
 seed-requires c κs = search needs
@@ -21,7 +20,7 @@ same-length-2 : tie.Need-same-length-2
 same-length-2 c = search needs
 
 returns-2 : tie.Need-returns-2
-returns-2 c = stores-answered _ _ (now (c .before .before .before .before .before .before .before .before .before .before .before .before .before .before .args .out)) (c .before .before .before .before .before .before .before .before .if1 .left) (c .before .before .before .before .before .before .seed .result) (c .before .before .before .before .before .before .seed .ensures .answer) (c .before .before .before .before .before .before .seed .ensures .slots-are) (record { answer = c .before .before .put-used .ensures .0; list = c .before .before .put-used .ensures .1 })
+returns-2 c = stores-answered _ _ _ (c .before .before .before .before .before .before .before .before .if1 .left) (c .before .before .before .before .before .before .seed .result) (c .before .before .before .before .before .before .seed .ensures .answer) (c .before .before .before .before .before .before .seed .ensures .slots-are) (c .before .before .put-used .ensures)
 
 pub table-seed-spec : {M : Type 1} → statement M
 table-seed-spec =

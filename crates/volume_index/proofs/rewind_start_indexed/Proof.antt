@@ -1,5 +1,4 @@
 -- Too few words are refused first; otherwise the start's equations say what goes out.
-use denote.Ref.{now}
 use Rattle.usn_answers.proofs.AnswerLaws.{out-same, out-mapped}
 use Rattle.volume_index.proofs.CallLaws.{starts-short, starts-answered}
 use borrow.Author.Needs.{needs}
@@ -7,7 +6,7 @@ use Rattle.volume_index.proofs.rewind_start_indexed.Statement.{statemen
 use Rattle.volume_index.proofs.rewind_start_indexed.Tie as tie
 
 returns : tie.Need-returns
-returns c = starts-short _ _ _ _ _ (now (c .before .before .before .before .before .before .before .before .before .args .out)) (c .if1 .taken)
+returns c = starts-short _ _ _ _ _ _ (c .if1 .taken)
 
 rewind-start-indexed-requires : tie.Need-rewind-start-indexed-requires
 rewind-start-indexed-requires c κs = search needs
@@ -31,7 +30,7 @@ same-length-5 : tie.Need-same-length-5
 same-length-5 c = search needs
 
 returns-2 : tie.Need-returns-2
-returns-2 c = starts-answered _ _ _ _ _ (now (c .before .before .before .before .before .before .before .before .before .before .before .before .before .before .before .before .before .before .before .before .before .before .before .before .before .before .args .out)) (c .before .before .before .before .before .before .before .before .before .before .before .before .before .before .before .before .before .if1 .left) (c .before .before .before .before .before .before .before .before .before .before .before .before .rewind-start-indexed .ensures .start .first) (c .before .before .before .before .before .before .before .before .before .before .before .before .rewind-start-indexed .ensures .start .forward) (c .before .before .before .before .before .before .before .before .before .before .before .before .rewind-start-indexed .ensures .heads-are) (c .before .before .before .before .before .before .before .before .before .before .before .before .rewind-start-indexed .ensures .nexts-are) (out-mapped _ (out-same (record { answer = c .before .before .put-start .ensures .0; list = c .before .before .put-start .ensures .1 }) (c .before .before .before .before .before .before .before .before .before .before .before .before .rewind-start-indexed .ensures .start .answer)))
+returns-2 c = starts-answered _ _ _ _ _ _ (c .before .before .before .before .before .before .before .before .before .before .before .before .before .before .before .before .before .if1 .left) (c .before .before .before .before .before .before .before .before .before .before .before .before .rewind-start-indexed .ensures .start .first) (c .before .before .before .before .before .before .before .before .before .before .before .before .rewind-start-indexed .ensures .start .forward) (c .before .before .before .before .before .before .before .before .before .before .before .before .rewind-start-indexed .ensures .heads-are) (c .before .before .before .before .before .before .before .before .before .before .before .before .rewind-start-indexed .ensures .nexts-are) (out-mapped _ (out-same (c .before .before .put-start .ensures) (c .before .before .before .before .before .before .before .before .before .before .before .before .rewind-start-indexed .ensures .start .answer)))
 
 pub rewind-start-indexed-spec : {M : Type 1} → statement M
 rewind-start-indexed-spec =

@@ -1,12 +1,11 @@
 -- Too few words are refused first; otherwise the equations of seeding say what goes out.
-use denote.Ref.{now}
 use Rattle.volume_index.proofs.CallLaws.{seeds-short, seeds-answered}
 use borrow.Author.Needs.{needs}
 use Rattle.volume_index.proofs.table_seed_indexed.Statement.{statement}
 use Rattle.volume_index.proofs.table_seed_indexed.Tie as tie
 
 returns : tie.Need-returns
-returns c = seeds-short _ _ _ _ (now (c .before .before .before .before .before .before .before .before .args .out)) (c .if1 .taken)
+returns c = seeds-short _ _ _ _ _ (c .if1 .taken)
 
 seed-indexed-requires : tie.Need-seed-indexed-requires
 seed-indexed-requires c κs = search needs
@@ -27,7 +26,7 @@ same-length-4 : tie.Need-same-length-4
 same-length-4 c = search needs
 
 returns-2 : tie.Need-returns-2
-returns-2 c = seeds-answered _ _ _ _ (now (c .before .before .before .before .before .before .before .before .before .before .before .before .before .before .before .before .before .before .before .before .before .before .args .out)) (c .before .before .before .before .before .before .before .before .before .before .before .before .before .before .if1 .left) (c .before .before .before .before .before .before .before .before .before .before .seed-indexed .ensures) (record { answer = c .before .before .put-used .ensures .0; list = c .before .before .put-used .ensures .1 })
+returns-2 c = seeds-answered _ _ _ _ _ (c .before .before .before .before .before .before .before .before .before .before .before .before .before .before .if1 .left) (c .before .before .before .before .before .before .before .before .before .before .seed-indexed .ensures) (c .before .before .put-used .ensures)
 
 pub table-seed-indexed-spec : {M : Type 1} → statement M
 table-seed-indexed-spec =
