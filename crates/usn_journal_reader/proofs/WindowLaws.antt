@@ -11,6 +11,7 @@ use Rattle.walk.specs.Outcome.{Outcome, refused, answered}
 use Rattle.walk.specs.Refusals.{listFull}
 use Rattle.usn_reader.specs.Window.{fresh, wantedOf, finished, fedBy}
 use Rattle.usn_reader.specs.Rule.{bufferReads, reading, asking}
+use Rattle.usn_reader.specs.Promise as window
 use Rattle.usn_reader.specs.Calls.{nextOf, giveOf, giveRefusal, bufferAfter}
 use Rattle.usn_reader.specs.declared.UsnJournalReader.{UsnJournalReader}
 use Rattle.usn_reader.specs.declared.Answer.the-variants.{End, Refused}
@@ -75,11 +76,11 @@ module _ (l b bytes o : List ℕ) where
         filled = ap (λ (y : Outcome Reading). unlessRefused y b (bufferAfter b bytes (readerOf l))) (sym e);
       }
 
-  pub give-answers : 6 ≤ length l → 22 ≤ length o → {w : UsnJournalReader} → w ≡ readerOf l → {x : Reading} → x ≡ giveOf (length b) (length bytes) w
-      → {b′ : List ℕ} → b′ ≡ bufferAfter b bytes w → {l′ o′ : List ℕ} {r : ℕ} → Told (readingOutcome x) l o r l′ o′ → Gives l b bytes o r l′ b′ o′
-  give-answers h k e f g t =
+  pub give-answers : 6 ≤ length l → 22 ≤ length o → {w : UsnJournalReader} → w ≡ readerOf l → {x : Reading} {b′ : List ℕ} → window.Gives w b bytes x b′
+      → {l′ o′ : List ℕ} {r : ℕ} → Told (readingOutcome x) l o r l′ o′ → Gives l b bytes o r l′ b′ o′
+  give-answers h k e g t =
       let q = window-answers l o (giveOf (length b) (length bytes) (readerOf l)) h k in
-      record { told = rw q (rw (f, e) at t); filled = rw q ((rw e at g) ∙ buffer-kept b bytes (readerOf l)) }
+      record { told = rw q (rw (g .answer, e) at t); filled = rw q ((rw e at (g .filled)) ∙ buffer-kept b bytes (readerOf l)) }
 
 -- giving never answers a record: its answer has three words, or none where it is refused
 pub give-words : (n k : ℕ) (w : UsnJournalReader) → length (readingWords (giveOf n k w)) ≤ 3

@@ -29,7 +29,7 @@ same-length-3 : tie.Need-same-length-3
 same-length-3 c = search needs
 
 returns-3 : tie.Need-returns-3
-returns-3 c = give-answers _ _ _ _ (c .before .before .before .before .before .before .before .before .before .before .before .before .before .before .if1 .left) (c .before .before .before .before .before .before .before .before .before .before .before .before .before .if2 .left) (c .before .before .before .before .before .before .before .before .before .before .before .reader-of .ensures) (c .before .before .before .before .before .before .before .before .before .give .ensures .answer) (c .before .before .before .before .before .before .before .before .before .give .ensures .filled) (c .before .before .before .before .put-reading .ensures)
+returns-3 c = give-answers _ _ _ _ (c .before .before .before .before .before .before .before .before .before .before .before .before .before .before .if1 .left) (c .before .before .before .before .before .before .before .before .before .before .before .before .before .if2 .left) (c .before .before .before .before .before .before .before .before .before .before .before .reader-of .ensures) (c .before .before .before .before .before .before .before .before .before .give .ensures) (c .before .before .before .before .put-reading .ensures)
 
 pub usn-reader-give-spec : {M : Type 1} → statement M
 usn-reader-give-spec =

@@ -26,7 +26,7 @@ returns : tie.Need-returns
 returns c = stats-answered _ _ (c .before .before .before .before .before .before .before .carving .given .1) (c .before .before .before .before .before .before .before .before .before .before .pre) (c .before .before .before .before .before .stats-row .ensures) (c .before .before .put-words .ensures)
 
 returns-2 : tie.Need-returns-2
-returns-2 c = record { answer = search needs; row = search needs }
+returns-2 c = search needs
 
 pub put-stats-spec : {M : Type 1} → statement M
 put-stats-spec =

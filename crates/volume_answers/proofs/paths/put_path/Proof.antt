@@ -26,7 +26,7 @@ returns : tie.Need-returns
 returns c = path-answered _ _ (c .before .before .before .before .before .before .before .answer .given .1) (c .before .before .before .before .before .before .before .before .before .before .pre) (c .before .before .before .before .before .told-row .ensures) (c .before .before .put-words .ensures)
 
 returns-2 : tie.Need-returns-2
-returns-2 c = record { answer = search needs; row = search needs }
+returns-2 c = search needs
 
 pub put-path-spec : {M : Type 1} → statement M
 put-path-spec =
