@@ -5,7 +5,7 @@ use Rattle.usn_journal_reader.proofs.usn_carve_records.Statement.{state
 use Rattle.usn_journal_reader.proofs.usn_carve_records.Tie as tie
 
 returns : tie.Need-returns
-returns c = lists-short _ _ _ _ _ _ (c .if1 .taken)
+returns c = lists-short _ _ 5 _ _ _ (c .if1 .taken)
 
 carve-usn-records-requires : tie.Need-carve-usn-records-requires
 carve-usn-records-requires c κs = search needs

@@ -6,7 +6,7 @@ use Rattle.usn_journal_reader.proofs.usn_parse_journal.Statement.{state
 use Rattle.usn_journal_reader.proofs.usn_parse_journal.Tie as tie
 
 returns : tie.Need-returns
-returns c = lists-short _ _ _ _ _ _ (c .if1 .taken)
+returns c = lists-short _ _ 1 _ _ _ (c .if1 .taken)
 
 parse-usn-journal-requires : tie.Need-parse-usn-journal-requires
 parse-usn-journal-requires c κs = search needs

@@ -5,7 +5,7 @@ use Rattle.volume_history.proofs.mft_carve_entries.Statement.{statement
 use Rattle.volume_history.proofs.mft_carve_entries.Tie as tie
 
 returns : tie.Need-returns
-returns c = lists-short _ _ _ _ _ _ (c .if1 .taken)
+returns c = lists-short _ _ 4 _ _ _ (c .if1 .taken)
 
 carve-mft-entries-requires : tie.Need-carve-mft-entries-requires
 carve-mft-entries-requires c κs = search needs

@@ -5,7 +5,7 @@ use Rattle.volume_history.proofs.path_decode.Statement.{statement}
 use Rattle.volume_history.proofs.path_decode.Tie as tie
 
 returns : tie.Need-returns
-returns c = lists-short _ _ _ _ _ _ (c .if1 .taken)
+returns c = lists-short _ _ 1 _ _ _ (c .if1 .taken)
 
 decode-requires : tie.Need-decode-requires
 decode-requires c κs = search needs

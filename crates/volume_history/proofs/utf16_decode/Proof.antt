@@ -5,7 +5,7 @@ use Rattle.volume_history.proofs.utf16_decode.Statement.{statement}
 use Rattle.volume_history.proofs.utf16_decode.Tie as tie
 
 returns : tie.Need-returns
-returns c = lists-short _ _ _ _ _ _ (c .if1 .taken)
+returns c = lists-short _ _ 1 _ _ _ (c .if1 .taken)
 
 decode-utf16-requires : tie.Need-decode-utf16-requires
 decode-utf16-requires c κs = search needs
