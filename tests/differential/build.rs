@@ -11,7 +11,7 @@ const ROOT: [&str; 4] = ["bytes", "carve", "refs", "rewind"];
 const USN: [&str; 3] = ["carver", "reader", "record"];
 
 /// Our static libraries: the journal reader's calls, and those of images and names.
-const LIBRARIES: [&str; 4] = ["usn_journal_reader", "volume_history", "carved_seed", "volume_index"];
+const LIBRARIES: [&str; 4] = ["usn_journal_reader", "volume_history", "carved_seed", "volume_rewinds"];
 
 fn main() {
     let project = env::var_os("CARGO_MANIFEST_DIR").expect("cargo sets CARGO_MANIFEST_DIR");

@@ -6,9 +6,9 @@ use mathlib.Core.Bool.{false}
 use native.Mathlib.Numerals.{add-one}
 use lib.ListN.{length, getD}
 use Rattle.mft_carver.specs.declared.CarvedMftEntry.{CarvedMftEntry}
-use Rattle.entry_table.specs.Slots.{rows}
-use Rattle.entry_table.specs.Table.{Addition}
-use Rattle.entry_table.specs.Carved.{additionOf}
+use Rattle.entry_slots.specs.Slots.{rows}
+use Rattle.entry_slots.specs.Table.{Addition}
+use Rattle.additions.specs.Carved.{additionOf}
 
 -- entry i of a list; past its end, one of zeros
 abbrev pub none : CarvedMftEntry

@@ -2,19 +2,21 @@
 -- the words that the image carver lists of the same entries, by its own. Assumes nothing.
 use Prim.Native.Nat.{ℕ}
 use mathlib.Core.Path.{_≡_, sym, ap, _∙_}
-use mathlib.Core.List.{List, map}
+use mathlib.Core.List.{List}
 use native.Mathlib.Omega.{arith}
 use Rattle.walk.specs.Lists.{flatten}
 use Rattle.walk.specs.Outcome.{Outcome}
 use Rattle.mft_carver.specs.Carve.{entryWords}
 use Rattle.mft_carver.specs.declared.CarvedMftEntry.{CarvedMftEntry}
-use Rattle.entry_table.specs.Names.{lengthsOf}
-use Rattle.entry_table.specs.Table.{Table, table}
-use Rattle.entry_table.specs.Storing.{storing, usedAfter, wordsAfter, outcome}
-use Rattle.entry_table.specs.Carved.{additionOf, seeding}
+use Rattle.entry_slots.specs.Names.{lengthsOf}
+use Rattle.entry_slots.specs.Table.{Table, table}
+use Rattle.additions.specs.Storing.{usedAfter, wordsAfter}
+use Rattle.entry_table.specs.Promise.{outcome, Stores}
+use Rattle.additions.specs.Carved.{seeding}
 use Rattle.entry_table.specs.declared.Stored.{Stored}
 use Rattle.entry_table.specs.declared.Stored.the-variants.{Used, Refused}
-use Rattle.entry_table.proofs.CarverLaws.{seeding-carved}
+use Rattle.additions.proofs.CarverLaws.{seeding-carved}
+use Rattle.carved_seed.specs.Promise.{seededFrom}
 
 -- two answers with one outcome are one answer
 same-answer : (r r′ : Stored) → outcome r ≡ outcome r′ → r ≡ r′
@@ -24,21 +26,11 @@ same-answer (Refused n) (Used m) e = let z : _≡_ {A = ℕ} 0 1 = cc in absurd 
 same-answer (Refused n) (Refused m) e = let p : n ≡ m = cc in ap Refused p
 
 module _ (journal image slots : List ℕ) (used : ℕ) (entries : List CarvedMftEntry) where
-  -- what `seed_from_carved` ensures of its answer r and of the words s that it leaves
-  abbrev FromCarved : Stored → List ℕ → Type 0
-  FromCarved r s =
-      (outcome r ≡ usedAfter (storing (lengthsOf journal image) (table slots used) (map additionOf entries)))
-      × (s ≡ wordsAfter (storing (lengthsOf journal image) (table slots used) (map additionOf entries)) slots)
-
-  -- what `seed` ensures of them on the flat list
-  abbrev FromFlat : Stored → List ℕ → Type 0
-  FromFlat r s =
-      (outcome r ≡ usedAfter (seeding (lengthsOf journal image) (table slots used) (flatten entryWords entries)))
-      × (s ≡ wordsAfter (seeding (lengthsOf journal image) (table slots used) (flatten entryWords entries)) slots)
-
-  pub as-seed : (r r′ : Stored) (s s′ : List ℕ) → FromCarved r s → FromFlat r′ s′ → (r ≡ r′) × (s ≡ s′)
+  -- what `seed_from_carved` answers and leaves is what `seed` does on the flat list
+  pub as-seed : (r r′ : Stored) (s s′ : List ℕ) → Stores (seededFrom journal image slots used entries) slots r s
+      → Stores (seeding (lengthsOf journal image) (table slots used) (flatten entryWords entries)) slots r′ s′ → (r ≡ r′) × (s ≡ s′)
   as-seed r r′ s s′ e e′ =
       let q = seeding-carved (lengthsOf journal image) (table slots used) entries in (
-        same-answer r r′ (e .0 ∙ ap usedAfter (sym q) ∙ sym (e′ .0)),
-        e .1 ∙ ap (λ (o : Outcome Table). wordsAfter o slots) (sym q) ∙ sym (e′ .1),
+        same-answer r r′ (e .answer ∙ ap usedAfter (sym q) ∙ sym (e′ .answer)),
+        e .slots-are ∙ ap (λ (o : Outcome Table). wordsAfter o slots) (sym q) ∙ sym (e′ .slots-are),
       )

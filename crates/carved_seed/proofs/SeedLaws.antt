@@ -4,15 +4,16 @@ use mathlib.Core.Path.{_≡_, refl, sym, _∙_, ap, subst}
 use mathlib.Core.List.{List, map}
 use lib.ListN.{length}
 use Rattle.mft_carver.specs.declared.CarvedMftEntry.{CarvedMftEntry}
-use Rattle.entry_table.specs.Names.{lengthsOf}
-use Rattle.entry_table.specs.Slots.{slotsIn}
-use Rattle.entry_table.specs.Table.{table, Addition}
-use Rattle.entry_table.specs.Storing.{storing, usedAfter, wordsAfter}
-use Rattle.entry_table.specs.Carved.{additionOf}
+use Rattle.entry_slots.specs.Names.{lengthsOf}
+use Rattle.entry_slots.specs.Slots.{slotsIn}
+use Rattle.entry_slots.specs.Table.{table, Addition}
+use Rattle.additions.specs.Storing.{storing, usedAfter, wordsAfter}
+use Rattle.additions.specs.Carved.{additionOf}
 use Rattle.carved_seed.specs.declared.Seeded.{Seeded}
 use Rattle.carved_seed.specs.declared.turns.Bounds.{Bounds}
 use Rattle.carved_seed.specs.declared.turns.Seeding.{Seeding}
 use Rattle.carved_seed.specs.Turns.{firstFrom, turned, wordsTurned, answer, inNumbers}
+use Rattle.carved_seed.specs.Promise.{seededFrom, StoresInNumbers}
 use Rattle.carved_seed.proofs.EntryLaws.{entryAt, addedAt, whole-entries}
 use Rattle.carved_seed.proofs.TurnLaws.{Stands, ahead, first-stands, stands-asks, turned-stands, over-stored}
 
@@ -40,9 +41,10 @@ module _ (js ms xs : List ℕ) (used : ℕ) (es : List CarvedMftEntry) where
 
   -- at the end, what is answered and left is what storing does
   pub seeds-over : (zs : List ℕ) (t : Seeding) → Seeds zs t → length es ≤ t .at → (r : Seeded) → r ≡ answer t
-      → (r ≡ inNumbers used (usedAfter (storing (lengthsOf js ms) (table xs used) (map additionOf es)))) × (zs ≡ wordsAfter (storing (lengthsOf js ms) (table xs used) (map additionOf es)) xs)
+      → StoresInNumbers (seededFrom js ms xs used es) used xs r zs
   seeds-over zs t w l r e =
-      let o = over-stored (lengthsOf js ms) (table xs used) (addedAt es) (length es) zs t w l in (
-        e ∙ o .0 ∙ ap (λ (all : List Addition). inNumbers used (usedAfter (storing (lengthsOf js ms) (table xs used) all))) (whole-entries es),
-        o .1 ∙ ap (λ (all : List Addition). wordsAfter (storing (lengthsOf js ms) (table xs used) all) xs) (whole-entries es),
-      )
+      let o = over-stored (lengthsOf js ms) (table xs used) (addedAt es) (length es) zs t w l in
+      record {
+        answer = e ∙ o .0 ∙ ap (λ (all : List Addition). inNumbers used (usedAfter (storing (lengthsOf js ms) (table xs used) all))) (whole-entries es);
+        slots-are = o .1 ∙ ap (λ (all : List Addition). wordsAfter (storing (lengthsOf js ms) (table xs used) all) xs) (whole-entries es);
+      }

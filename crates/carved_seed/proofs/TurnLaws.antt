@@ -11,18 +11,18 @@ use Rattle.walk.specs.Outcome.{Outcome, refused, answered}
 use Rattle.walk.specs.Refusals.{badState, nameOutside, tableFull}
 use Rattle.walk.proofs.ChoiceLaws.{cond-cases}
 use Rattle.mft_carver.specs.declared.CarvedMftEntry.{CarvedMftEntry}
-use Rattle.entry_table.specs.Names.{Lengths, lengths, inside, allInside}
-use Rattle.entry_table.specs.Slots.{slotsIn, sameKey, rows}
-use Rattle.entry_table.specs.Table.{Table, table, find, known, Addition}
-use Rattle.entry_table.specs.Storing.{newKeys, seen, keysOf, namesOf, adding, storing, usedAfter, wordsAfter}
-use Rattle.entry_table.specs.Carved.{additionOf}
-use Rattle.entry_table.specs.declared.EntryKey.{EntryKey}
-use Rattle.entry_table.specs.declared.slots.Found.{Found}
-use Rattle.entry_table.specs.declared.slots.Found.the-variants.{At, Nothing}
-use Rattle.entry_table.proofs.RowLaws.{map-rows}
-use Rattle.entry_table.proofs.NameLaws.{Passing, passing-start, passing-row, passing-outside, passing-end}
-use Rattle.entry_table.proofs.StoringLaws.{adding-full, stored-bad-state, stored-outside, stored-inside}
-use Rattle.entry_table.proofs.AdditionLaws.{keysAt, Looking, looking-start, looking-table, looking-next, looking-found, looking-end, Counting, counting-start, counting-new, counting-known, counting-end, room-for-all, AddingRows, rows-start, rows-added, rows-refused, rows-added-all}
+use Rattle.entry_slots.specs.Names.{Lengths, lengths, inside, allInside}
+use Rattle.entry_slots.specs.Slots.{slotsIn, sameKey, rows}
+use Rattle.entry_slots.specs.Table.{Table, table, find, known, Addition}
+use Rattle.additions.specs.Storing.{newKeys, seen, keysOf, namesOf, adding, storing, usedAfter, wordsAfter}
+use Rattle.additions.specs.Carved.{additionOf}
+use Rattle.entry_slots.specs.declared.EntryKey.{EntryKey}
+use Rattle.entry_slots.specs.declared.slots.Found.{Found}
+use Rattle.entry_slots.specs.declared.slots.Found.the-variants.{At, Nothing}
+use Rattle.entry_slots.proofs.RowLaws.{map-rows}
+use Rattle.entry_slots.proofs.NameLaws.{Passing, passing-start, passing-row, passing-outside, passing-end}
+use Rattle.additions.proofs.StoringLaws.{adding-full, stored-bad-state, stored-outside, stored-inside}
+use Rattle.additions.proofs.AdditionLaws.{keysAt, Looking, looking-start, looking-table, looking-next, looking-found, looking-end, Counting, counting-start, counting-new, counting-known, counting-end, room-for-all, AddingRows, rows-start, rows-added, rows-refused, rows-added-all}
 use Rattle.carved_seed.specs.declared.turns.Bounds.{Bounds}
 use Rattle.carved_seed.specs.declared.turns.Seeding.{Seeding}
 use Rattle.carved_seed.specs.Turns.{toJudge, toCompare, toAdd, toEnd, nextFrom, firstFrom, compareFrom, judged, compared, afterAdding, inserted, wordsInserted, turned, wordsTurned, answer, inNumbers}

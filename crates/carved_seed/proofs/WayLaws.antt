@@ -9,17 +9,17 @@ use Rattle.walk.specs.Outcome.{Outcome, refused, answered}
 use Rattle.walk.specs.Refusals.{badState, nameOutside, tableFull}
 use Rattle.walk.proofs.ChoiceLaws.{cond-cases}
 use Rattle.mft_carver.specs.declared.CarvedMftEntry.{CarvedMftEntry}
-use Rattle.entry_table.specs.Names.{Lengths, lengths, inside, allInside}
-use Rattle.entry_table.specs.Slots.{slotsIn, sameKey}
-use Rattle.entry_table.specs.Table.{Table, table, find, known, Addition, addition}
-use Rattle.entry_table.specs.Storing.{newKeys, keysOf, namesOf, adding, storing, usedAfter, wordsAfter}
-use Rattle.entry_table.specs.Carved.{additionOf}
-use Rattle.entry_table.specs.declared.EntryKey.{EntryKey}
-use Rattle.entry_table.specs.declared.EntryInfo.{EntryInfo}
-use Rattle.entry_table.specs.declared.NamePlace.{NamePlace}
-use Rattle.entry_table.specs.declared.slots.Found.{Found}
-use Rattle.entry_table.specs.declared.slots.Found.the-variants.{At, Nothing}
-use Rattle.entry_table.proofs.AdditionLaws.{same-addition}
+use Rattle.entry_slots.specs.Names.{Lengths, lengths, inside, allInside}
+use Rattle.entry_slots.specs.Slots.{slotsIn, sameKey}
+use Rattle.entry_slots.specs.Table.{Table, table, find, known, Addition, addition}
+use Rattle.additions.specs.Storing.{newKeys, keysOf, namesOf, adding, storing, usedAfter, wordsAfter}
+use Rattle.additions.specs.Carved.{additionOf}
+use Rattle.entry_slots.specs.declared.EntryKey.{EntryKey}
+use Rattle.entry_slots.specs.declared.EntryInfo.{EntryInfo}
+use Rattle.entry_slots.specs.declared.NamePlace.{NamePlace}
+use Rattle.entry_slots.specs.declared.slots.Found.{Found}
+use Rattle.entry_slots.specs.declared.slots.Found.the-variants.{At, Nothing}
+use Rattle.additions.proofs.AdditionLaws.{same-addition}
 use Rattle.carved_seed.specs.declared.Seeded.{Seeded}
 use Rattle.carved_seed.specs.declared.turns.Bounds.{Bounds}
 use Rattle.carved_seed.specs.declared.turns.Seeding.{Seeding}

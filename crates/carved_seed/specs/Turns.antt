@@ -6,12 +6,12 @@ use lib.Dec.{ltb, leb, eqb}
 use Rattle.walk.specs.Outcome.{Outcome, refused, answered}
 use Rattle.walk.specs.Refusals.{badState, nameOutside, tableFull}
 use Rattle.mft_carver.specs.declared.CarvedMftEntry.{CarvedMftEntry}
-use Rattle.entry_table.specs.Names.{lengths, inside}
-use Rattle.entry_table.specs.Slots.{slotsIn, sameKey}
-use Rattle.entry_table.specs.Table.{Table, table, known}
-use Rattle.entry_table.specs.Storing.{adding, usedAfter, wordsAfter}
-use Rattle.entry_table.specs.Carved.{additionOf}
-use Rattle.entry_table.specs.declared.EntryKey.{EntryKey}
+use Rattle.entry_slots.specs.Names.{lengths, inside}
+use Rattle.entry_slots.specs.Slots.{slotsIn, sameKey}
+use Rattle.entry_slots.specs.Table.{Table, table, known}
+use Rattle.additions.specs.Storing.{adding, usedAfter, wordsAfter}
+use Rattle.additions.specs.Carved.{additionOf}
+use Rattle.entry_slots.specs.declared.EntryKey.{EntryKey}
 use Rattle.carved_seed.specs.declared.Seeded.{Seeded}
 use Rattle.carved_seed.specs.declared.turns.Bounds.{Bounds}
 use Rattle.carved_seed.specs.declared.turns.Seeding.{Seeding}

@@ -1,16 +1,13 @@
 // Seeding of the lookup table from a lent slice of carved entries, as the image carver's own struct has them.
 //
 // Every function here is proved. The public calls have no `requires`: any table and any entries get an answer. They answer and
-// write what `entry_index::seed` does on the flat list of the same entries.
+// write what `entry_table::seed` does on the flat list of the same entries.
 pub mod turns;
 
 ghost use mathlib.Core.Path.{_≡_};
-ghost use mathlib.Core.List.{map};
-ghost use Rattle.entry_table.specs.Names.{lengthsOf};
-ghost use Rattle.entry_table.specs.Table.{table};
-ghost use Rattle.entry_table.specs.Storing.{storing, usedAfter, wordsAfter, outcome};
-ghost use Rattle.entry_table.specs.Carved.{additionOf};
-ghost use Rattle.carved_seed.specs.Turns.{inNumbers, seededOutcome};
+ghost use Rattle.entry_table.specs.Promise.{outcome};
+ghost use Rattle.carved_seed.specs.Turns.{seededOutcome};
+ghost use Rattle.carved_seed.specs.Promise.{SeedFromCarvedPromise, SeedEntriesPromise};
 use crate::turns::Bounds;
 use crate::turns::begin;
 use crate::turns::finish;
@@ -36,8 +33,7 @@ pub fn seed_from_carved(
     used: usize,
     entries: &[CarvedMftEntry],
 ) -> Stored
-    ensures { λ r. ⌜ (outcome r ≡ usedAfter (storing (lengthsOf (now (journal .entry)) (now (image .entry))) (table (now (slots .entry)) used) (map additionOf (now (entries .entry)))))
-        × (now (slots .exit) ≡ wordsAfter (storing (lengthsOf (now (journal .entry)) (now (image .entry))) (table (now (slots .entry)) used) (map additionOf (now (entries .entry)))) (now (slots .entry))) ⌝ }
+    ensures { λ r. ⌜ SeedFromCarvedPromise journal image slots used entries r ⌝ }
 {
     stored(table_seed_entries(journal, image, slots, used, entries))
 }
@@ -51,8 +47,7 @@ pub extern "C" fn table_seed_entries(
     used: usize,
     entries: &[CarvedMftEntry],
 ) -> Seeded
-    ensures { λ r. ⌜ (r ≡ inNumbers used (usedAfter (storing (lengthsOf (now (journal .entry)) (now (image .entry))) (table (now (slots .entry)) used) (map additionOf (now (entries .entry))))))
-        × (now (slots .exit) ≡ wordsAfter (storing (lengthsOf (now (journal .entry)) (now (image .entry))) (table (now (slots .entry)) used) (map additionOf (now (entries .entry)))) (now (slots .entry))) ⌝ }
+    ensures { λ r. ⌜ SeedEntriesPromise journal image slots used entries r ⌝ }
 {
     let b = Bounds {
         count: entries.len(),

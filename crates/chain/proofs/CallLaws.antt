@@ -1,21 +1,24 @@
 -- The ways out of the call, by its tests: its outcome, and what the list then holds. Assumes nothing.
 use Prim.Native.Nat.{ℕ, _+_, _≤_, _<_}
-use mathlib.Core.Path.{_≡_, sym, _∙_}
+use mathlib.Core.Path.{_≡_, refl, ap, sym, _∙_}
 use mathlib.Core.List.{List}
-use mathlib.Core.Bool.{true, false, not}
+use mathlib.Core.Bool.{Bool, true, false, cond, not}
 use native.Mathlib.Omega.{arith}
-use borrow.Author.Tests.{lt-ltb, le-ltb, ltb-false, not-false}
-use lib.Dec.{ltb}
+use borrow.Author.Tests.{lt-ltb, le-ltb, ltb-false, eq-eqb, ne-eqb, not-false}
+use lib.Dec.{ltb, eqb}
 use Rattle.walk.specs.Outcome.{Outcome, refused, answered, mapOutcome}
 use Rattle.walk.proofs.ChoiceLaws.{cond-cases}
 use Rattle.walk.specs.Refusals.{aboveDomain, nameOutside, badState, domain}
-use Rattle.entry_table.specs.Names.{Lengths, allInside}
-use Rattle.entry_table.specs.Slots.{slotsIn, namesIn}
-use Rattle.entry_table.specs.Table.{Table}
-use Rattle.entry_table.specs.declared.EntryKey.{EntryKey}
+use Rattle.entry_slots.specs.Names.{Lengths, allInside}
+use Rattle.entry_slots.specs.Slots.{slotsIn, namesIn}
+use Rattle.entry_slots.specs.Table.{Table}
+use Rattle.entry_slots.specs.declared.EntryKey.{EntryKey}
+use Rattle.chain.specs.Promise.{Chains}
+use Rattle.chain.specs.declared.ChainAnswer.{ChainAnswer}
+use Rattle.chain.specs.declared.ChainAnswer.the-variants.{Resolved, Refused}
 use Rattle.chain.specs.declared.ResolvedPath.{ResolvedPath}
-use Rattle.chain.specs.Chain.{Chain, chain, chainOf, resolved}
-use Rattle.chain.specs.Tracing.{inDomain, tracing, listed, chainAfter}
+use Rattle.chain.specs.Chain.{Chain, chainOf, resolved}
+use Rattle.chain.specs.Tracing.{inDomain, tracing, pathRefusal, listed}
 
 -- journal or image above the domain, and neither
 module _ {A : Type 0} (ls : Lengths) (o : Outcome A) where
@@ -31,29 +34,57 @@ module _ {A : Type 0} (ls : Lengths) (o : Outcome A) where
   unfolding inDomain
   both-within a b = simp (le-ltb _ _ a, le-ltb _ _ b)
 
-module _ (ls : Lengths) (t : Table) (depth : ℕ) (k : EntryKey) where
-  pub traced-journal : domain < ls .journal → tracing ls t depth k ≡ refused aboveDomain
-  unfolding tracing
-  traced-journal h = journal-above ls _ h
+-- the tests of a path, in turn
+module _ (ls : Lengths) (t : Table) where
+  pub refusal-journal : domain < ls .journal → aboveDomain ≡ pathRefusal ls t
+  unfolding pathRefusal
+  refusal-journal h = sym (simp (lt-ltb _ _ h))
 
   module _ (a : ls .journal ≤ domain) where
-    pub traced-image : domain < ls .image → tracing ls t depth k ≡ refused aboveDomain
-    unfolding tracing
-    traced-image h = image-above ls _ a h
+    pub refusal-image : domain < ls .image → aboveDomain ≡ pathRefusal ls t
+    unfolding pathRefusal
+    refusal-image h = sym (simp (le-ltb _ _ a, lt-ltb _ _ h))
 
     module _ (b : ls .image ≤ domain) where
-      pub traced-state : slotsIn (t .words) < t .used → tracing ls t depth k ≡ refused badState
-      unfolding tracing
-      traced-state h = both-within ls _ a b ∙ simp (lt-ltb _ _ h)
+      pub refusal-state : slotsIn (t .words) < t .used → badState ≡ pathRefusal ls t
+      unfolding pathRefusal
+      refusal-state h = sym (simp (le-ltb _ _ a, le-ltb _ _ b, lt-ltb _ _ h))
 
       module _ (u : t .used ≤ slotsIn (t .words)) where
-        pub traced-outside : allInside ls (namesIn (t .words) (t .used)) ≡ false → tracing ls t depth k ≡ refused nameOutside
-        unfolding tracing
-        traced-outside e = both-within ls _ a b ∙ simp (le-ltb _ _ u, e)
+        pub refusal-outside : allInside ls (namesIn (t .words) (t .used)) ≡ false → nameOutside ≡ pathRefusal ls t
+        unfolding pathRefusal
+        refusal-outside e = sym (simp (le-ltb _ _ a, le-ltb _ _ b, le-ltb _ _ u, e))
 
-        pub traced : allInside ls (namesIn (t .words) (t .used)) ≡ true → tracing ls t depth k ≡ answered (chainOf t depth k)
+        pub refusal-none : allInside ls (namesIn (t .words) (t .used)) ≡ true → 0 ≡ pathRefusal ls t
+        unfolding pathRefusal
+        refusal-none e = sym (simp (le-ltb _ _ a, le-ltb _ _ b, le-ltb _ _ u, e))
+
+        pub traced : (depth : ℕ) (k : EntryKey) → allInside ls (namesIn (t .words) (t .used)) ≡ true → tracing ls t depth k ≡ answered (chainOf t depth k)
         unfolding tracing
-        traced e = both-within ls _ a b ∙ simp (le-ltb _ _ u, e)
+        traced depth k e = both-within ls _ a b ∙ simp (le-ltb _ _ u, e)
+
+-- a path is refused with the number of its tests, and answered where that is 0
+module _ (ls : Lengths) (t : Table) (depth : ℕ) (k : EntryKey) where
+  by-refusal : tracing ls t depth k ≡ cond (eqb (pathRefusal ls t) 0) (answered (chainOf t depth k)) (refused (pathRefusal ls t))
+  unfolding tracing inDomain pathRefusal
+  by-refusal = go (ltb domain (ls .journal)) (ltb domain (ls .image)) (ltb (slotsIn (t .words)) (t .used)) (not (allInside ls (namesIn (t .words) (t .used))))
+    where
+      go : (a b c d : Bool)
+          → cond a (refused aboveDomain) (cond b (refused aboveDomain) (cond c (refused badState) (cond d (refused nameOutside) (answered (chainOf t depth k)))))
+          ≡ cond (eqb (cond a aboveDomain (cond b aboveDomain (cond c badState (cond d nameOutside 0)))) 0) (answered (chainOf t depth k))
+          (refused (cond a aboveDomain (cond b aboveDomain (cond c badState (cond d nameOutside 0)))))
+      go true b c d = refl
+      go false true c d = refl
+      go false false true d = refl
+      go false false false true = refl
+      go false false false false = refl
+
+  module _ {n : ℕ} (e : n ≡ pathRefusal ls t) where
+    pub tests-fail : (n ≡ 0 → ⊥) → tracing ls t depth k ≡ refused n
+    tests-fail h = by-refusal ∙ rw (← e, ne-eqb n 0 h)
+
+    pub tests-pass : n ≡ 0 → tracing ls t depth k ≡ answered (chainOf t depth k)
+    tests-pass h = by-refusal ∙ rw (← e, eq-eqb n 0 h)
 
 -- what holds where a chain is answered
 pub record Traced (ls : Lengths) (t : Table) (depth : ℕ) (k : EntryKey) (p : ResolvedPath) : Type 0 where
@@ -85,21 +116,22 @@ module _ (ls : Lengths) (t : Table) (depth : ℕ) (k : EntryKey) where
       }))))
 
   pub traced-answered : {p : ResolvedPath} → Traced ls t depth k p → tracing ls t depth k ≡ answered (chainOf t depth k)
-  traced-answered w = traced ls t depth k (w .journal) (w .image) (w .fits) (w .places)
+  traced-answered w = traced ls t (w .journal) (w .image) (w .fits) depth k (w .places)
 
--- a refusal is the same under another answer
-pub map-refused : {A B : Type 0} (f : A → B) (o : Outcome A) {n : ℕ} → refused n ≡ mapOutcome f o → o ≡ refused n
-map-refused f (refused m) e = cc
-map-refused f (answered a) e = never (sym e)
+-- what is known where the tests pass
+module _ (ls : Lengths) (t : Table) (depth : ℕ) (k : EntryKey) where
+  pub chain-traced : tracing ls t depth k ≡ answered (chainOf t depth k) → Traced ls t depth k (resolved (chainOf t depth k))
+  chain-traced e = answered-traced ls t depth k (sym (ap (mapOutcome resolved) e))
 
 -- the list at the end of a call, by its outcome
 module _ (ls : Lengths) (t : Table) (depth : ℕ) (k : EntryKey) (l : List ℕ) where
   -- the outcome is x, and the list holds m
-  abbrev Comes : Outcome ResolvedPath → List ℕ → Type 0
-  Comes x m = (x ≡ mapOutcome resolved (tracing ls t depth k)) × (m ≡ chainAfter (tracing ls t depth k) l)
+  abbrev Comes : ChainAnswer → List ℕ → Type 0
+  Comes = Chains (tracing ls t depth k) l
 
-  pub chain-refused : {n : ℕ} → refused n ≡ mapOutcome resolved (tracing ls t depth k) → Comes (refused n) l
-  chain-refused e = (e, rw (map-refused resolved (tracing ls t depth k) e))
+  pub chain-refused : {n : ℕ} → tracing ls t depth k ≡ refused n → Comes (Refused n) l
+  chain-refused e = record { answer = sym (ap (mapOutcome resolved) e); places = rw e }
 
-  pub chain-listed : {p : ResolvedPath} {m : List ℕ} → answered p ≡ mapOutcome resolved (tracing ls t depth k) → m ≡ listed l (chain t (depth + 1) k .places) → Comes (answered p) m
-  chain-listed e f = (e, rw (traced-answered ls t depth k (answered-traced ls t depth k e)) f)
+  pub chain-listed : tracing ls t depth k ≡ answered (chainOf t depth k) → {p : ResolvedPath} {m : List ℕ} → p ≡ resolved (chainOf t depth k)
+      → m ≡ listed l (chainOf t depth k .places) → Comes (Resolved p) m
+  chain-listed e g f = record { answer = ap answered g ∙ sym (ap (mapOutcome resolved) e); places = rw e f }

@@ -5,13 +5,13 @@ use mathlib.Core.Bool.{Bool, true, false, cond}
 use native.Mathlib.Omega.{arith}
 use borrow.Author.Tests.{eq-eqb, ne-eqb}
 use lib.ListN.{length, length-append}
-use Rattle.entry_table.specs.Slots.{infoAt}
-use Rattle.entry_table.specs.Table.{Table, find, lookupFound}
-use Rattle.entry_table.specs.declared.EntryKey.{EntryKey}
-use Rattle.entry_table.specs.declared.EntryInfo.{EntryInfo}
-use Rattle.entry_table.specs.declared.slots.Found.{Found}
-use Rattle.entry_table.specs.declared.slots.Found.the-variants.{At, Nothing}
-use Rattle.entry_table.proofs.FindLaws.{find-at}
+use Rattle.entry_slots.specs.Slots.{infoAt}
+use Rattle.entry_slots.specs.Table.{Table, find, lookupFound}
+use Rattle.entry_slots.specs.declared.EntryKey.{EntryKey}
+use Rattle.entry_slots.specs.declared.EntryInfo.{EntryInfo}
+use Rattle.entry_slots.specs.declared.slots.Found.{Found}
+use Rattle.entry_slots.specs.declared.slots.Found.the-variants.{At, Nothing}
+use Rattle.entry_slots.proofs.FindLaws.{find-at}
 use Rattle.chain.specs.declared.ChainEnd.{ChainEnd}
 use Rattle.chain.specs.declared.ChainEnd.the-variants.{Root, Unknown, Unresolved}
 use Rattle.chain.specs.declared.ResolvedPath.{ResolvedPath}

@@ -10,12 +10,12 @@ use lib.Dec.{ltb}
 use Rattle.walk.specs.Outcome.{Outcome, refused, answered, mapOutcome}
 use Rattle.walk.specs.Refusals.{aboveDomain, nameOutside, badState, domain}
 use Rattle.walk.proofs.ChoiceLaws.{cond-cases}
-use Rattle.entry_table.specs.Names.{Lengths, lengthsOf, inside, allInside}
-use Rattle.entry_table.specs.Slots.{slotsIn, infoAt, nameAt, namesIn}
-use Rattle.entry_table.specs.Table.{Table}
-use Rattle.entry_table.specs.declared.EntryKey.{EntryKey}
-use Rattle.entry_table.specs.declared.NamePlace.{NamePlace}
-use Rattle.entry_table.proofs.NameLaws.{all-inside-at}
+use Rattle.entry_slots.specs.Names.{Lengths, lengthsOf, inside, allInside}
+use Rattle.entry_slots.specs.Slots.{slotsIn, infoAt, nameAt, namesIn}
+use Rattle.entry_slots.specs.Table.{Table}
+use Rattle.entry_slots.specs.declared.EntryKey.{EntryKey}
+use Rattle.entry_slots.specs.declared.NamePlace.{NamePlace}
+use Rattle.entry_slots.proofs.NameLaws.{all-inside-at}
 use Rattle.chain.specs.Chain.{Chain, chain, chainOf, resolved}
 use Rattle.chain.specs.Tracing.{inDomain, tracing, chainAfter}
 use Rattle.chain.proofs.ChainLaws.{chain-cases, names-most}

@@ -5,11 +5,11 @@ use mathlib.Core.Bool.{Bool, cond}
 use lib.ListN.{length}
 use lib.Dec.{eqb}
 use Rattle.walk.specs.Lists.{flatten}
-use Rattle.entry_table.specs.Table.{Table, Lookup, unknown, entered, lookup, find}
-use Rattle.entry_table.specs.declared.EntryKey.{EntryKey}
-use Rattle.entry_table.specs.declared.NamePlace.{NamePlace}
-use Rattle.entry_table.specs.declared.slots.Found.{Found}
-use Rattle.entry_table.specs.declared.slots.Found.the-variants.{At, Nothing}
+use Rattle.entry_slots.specs.Table.{Table, Lookup, unknown, entered, lookup, find}
+use Rattle.entry_slots.specs.declared.EntryKey.{EntryKey}
+use Rattle.entry_slots.specs.declared.NamePlace.{NamePlace}
+use Rattle.entry_slots.specs.declared.slots.Found.{Found}
+use Rattle.entry_slots.specs.declared.slots.Found.the-variants.{At, Nothing}
 use Rattle.chain.specs.declared.ChainEnd.{ChainEnd}
 use Rattle.chain.specs.declared.ChainEnd.the-variants.{Root, Unknown, Unresolved}
 use Rattle.chain.specs.declared.ResolvedPath.{ResolvedPath}

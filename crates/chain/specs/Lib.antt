@@ -1,3 +1,4 @@
 pub mod Settings
 pub mod Chain
 pub mod Tracing
+pub mod Promise

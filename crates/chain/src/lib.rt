@@ -10,16 +10,10 @@ pub mod places;
 pub mod steps;
 pub mod tracing;
 
-ghost use mathlib.Core.Path.{_≡_};
-ghost use Rattle.walk.specs.Outcome.{mapOutcome};
-ghost use Rattle.entry_table.specs.Names.{lengthsOf};
-ghost use Rattle.entry_table.specs.Table.{table};
-ghost use Rattle.chain.specs.Settings.{depth};
-ghost use Rattle.chain.specs.Chain.{resolved};
-ghost use Rattle.chain.specs.Tracing.{tracing, chainAfter, outcome};
+ghost use Rattle.chain.specs.Promise.{ChainPromise};
 use crate::places::list_chain;
-use crate::tracing::trace;
-use entry_table::EntryKey;
+use crate::tracing::refusal;
+use entry_slots::EntryKey;
 
 // How many parents up from the key that is asked for a path is followed.
 pub const DEPTH: usize = 256;
@@ -54,14 +48,11 @@ pub fn path_chain(
     key: EntryKey,
     list: &mut [u64],
 ) -> ChainAnswer
-    ensures { λ r. ⌜ outcome r ≡ mapOutcome resolved (tracing (lengthsOf (now (journal .entry)) (now (image .entry))) (table (now (slots .entry)) used) depth key) ⌝ }
-    ensures { λ _. ⌜ now (list .exit) ≡ chainAfter (tracing (lengthsOf (now (journal .entry)) (now (image .entry))) (table (now (slots .entry)) used) depth key) (now (list .entry)) ⌝ }
+    ensures { λ r. ⌜ ChainPromise journal image slots used key list r ⌝ }
 {
-    match trace(journal.len(), image.len(), slots, used, key, DEPTH) {
-        ChainAnswer::Refused(n) => ChainAnswer::Refused(n),
-        ChainAnswer::Resolved(path) => {
-            list_chain(slots, used, key, DEPTH + 1, list, path.names);
-            ChainAnswer::Resolved(path)
-        }
+    let n = refusal(journal.len(), image.len(), slots, used);
+    if n != 0 {
+        return ChainAnswer::Refused(n);
     }
+    ChainAnswer::Resolved(list_chain(slots, used, key, list))
 }

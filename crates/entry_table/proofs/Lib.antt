@@ -1,14 +1,2 @@
-pub mod TestLaws
-pub mod RowLaws
-pub mod NameLaws
-pub mod FindLaws
-pub mod PutLaws
-pub mod TableLaws
-pub mod StoringLaws
-pub mod AddLaws
-pub mod CountLaws
-pub mod AdditionLaws
-pub mod KeptLaws
-pub mod CallLaws
-pub mod Examples
-pub mod CarverLaws
+pub mod AddingLaws
+pub mod SeedLaws

@@ -1,6 +1,1 @@
-pub mod Names
-pub mod Slots
-pub mod Table
-pub mod Storing
-pub mod Carved
-pub mod InTurn
+pub mod Promise

@@ -9,10 +9,10 @@ use borrow.Author.Tests.{eqb-true}
 use Rattle.walk.specs.Outcome.{Outcome, refused, answered, mapOutcome}
 use Rattle.walk.specs.Refusals.{textFull}
 use Rattle.walk.proofs.ChoiceLaws.{cond-cases}
-use Rattle.entry_table.specs.Names.{Lengths, allInside}
-use Rattle.entry_table.specs.Slots.{slotsIn}
-use Rattle.entry_table.specs.Table.{Table, Addition}
-use Rattle.entry_table.specs.Storing.{namesOf, storing}
+use Rattle.entry_slots.specs.Names.{Lengths, allInside}
+use Rattle.entry_slots.specs.Slots.{slotsIn}
+use Rattle.entry_slots.specs.Table.{Table, Addition}
+use Rattle.additions.specs.Storing.{namesOf, storing}
 use Rattle.rewind.specs.Starting.{Tables}
 use Rattle.rewind_records.specs.Turning.{Next}
 use Rattle.rewind_steps.specs.Taking.{Step}

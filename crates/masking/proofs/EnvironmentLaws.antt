@@ -8,9 +8,10 @@ use lib.ListN.{length, getD}
 use Rattle.walk.specs.Lists.{flatten, placeWords, All}
 use Rattle.walk.specs.declared.Place.{Place}
 use Rattle.usn_record.specs.Record.{listed}
-use Rattle.entry_table.specs.Slots.{rows}
-use Rattle.rewind_records.specs.Entries.{entryAt}
-use Rattle.rewind_records.specs.Environment.{environmentOf, offsetIn, offsetsIn, recordsIn}
+use Rattle.entry_slots.specs.Slots.{rows}
+use Rattle.additions.specs.Entries.{entryAt}
+use Rattle.rewind_records.specs.Environment.{environmentOf}
+use Rattle.additions.specs.Walking.{offsetIn, offsetsIn, recordsIn}
 
 -- rows by another numbering that gives the same
 rows-shift : {A : Type 0} (f g : ℕ → A) → ((i : ℕ) → g (i + 1) ≡ f i) → (i n : ℕ) → rows g (i + 1) n ≡ rows f i n

@@ -24,8 +24,7 @@ use Rattle.usn_journal.specs.Scan.{kindByVersion, kindOf, visit, scanned}
 use Rattle.usn_journal.specs.Outcome.{scan}
 use Rattle.usn_carver.specs.Settings.{standard}
 use Rattle.usn_carver.specs.Events.{structure, rejected, carved}
-use Rattle.usn_carver.specs.Carve.{judged, visitAs, carving, events}
-use Rattle.usn_carver.specs.Carve.{visit as carverVisit}
+use Rattle.usn_carver.specs.Carve.{judged, visitAs, carving, events, visit as carverVisit}
 use Rattle.usn_carver.specs.Masking.{nameOf, NoOverlap, IfAnswered}
 use Rattle.usn_carver.proofs.Examples.{E-carved, overlap-first, overlap-masked}
 use Rattle.usn_reader.specs.Window.{windowSize, wrongEnd, wrongNumbers, refusalOf, wantedOf}
@@ -36,26 +35,23 @@ use Rattle.usn_reader.specs.declared.Reading.{Reading}
 use Rattle.usn_reader.proofs.RunLaws.{journalReading, journalReadings, run-journal}
 use Rattle.usn_reader.proofs.TwoRuns.{fresh-filled}
 use Rattle.mft_carver.specs.Filename.{replaces, keep}
-use Rattle.mft_carver.specs.Attributes.{given, attributeAt, filenameIn}
-use Rattle.mft_carver.specs.Attributes.{visit as attributeVisit}
-use Rattle.mft_carver.specs.Entry.{hasSignature}
-use Rattle.mft_carver.specs.Entry.{judged as entryJudged}
+use Rattle.mft_carver.specs.Attributes.{given, attributeAt, filenameIn, visit as attributeVisit}
+use Rattle.mft_carver.specs.Entry.{hasSignature, judged as entryJudged}
 use Rattle.mft_carver.specs.Carve.{visit as imageVisit, carving as imageCarving}
 use Rattle.mft_carver.specs.Sample.{header, beforeName, abc, last}
 use Rattle.utf16.specs.Utf16.{alone, codePoints, unitsAt}
 use Rattle.utf16.specs.Utf8.{utf8}
 use Rattle.utf16.specs.Text.{decoded}
-use Rattle.entry_table.specs.Names.{inside}
-use Rattle.entry_table.specs.Slots.{sameKey, putAt, findFrom, rows}
-use Rattle.entry_table.specs.Table.{table, addFound, addAll}
-use Rattle.entry_table.specs.Storing.{newKeys, adding}
-use Rattle.entry_table.specs.declared.NamePlace.{NamePlace}
+use Rattle.entry_slots.specs.Names.{inside}
+use Rattle.entry_slots.specs.Slots.{sameKey, putAt, findFrom, rows}
+use Rattle.entry_slots.specs.Table.{table, addFound}
+use Rattle.additions.specs.Storing.{addAll, newKeys, adding}
+use Rattle.entry_slots.specs.declared.NamePlace.{NamePlace}
 use Rattle.chain.specs.Chain.{isRoot, chain}
-use Rattle.chain.specs.Tracing.{inDomain}
-use Rattle.chain.specs.Tracing.{listed as listedChain}
+use Rattle.chain.specs.Tracing.{inDomain, listed as listedChain}
 use Rattle.path.specs.Text.{endText, placeText, stepText, pathText}
 use Rattle.path.specs.Telling.{placing, decoding}
-use Rattle.rewind_records.specs.Entries.{hasReason, entryFrom}
+use Rattle.additions.specs.Entries.{hasReason, entryFrom}
 use Rattle.walk.specs.Lists.{every}
 use Rattle.rewind_records.specs.Environment.{refusalOf as rewindRefusal}
 use Rattle.rewind.specs.Starting.{starting}

@@ -9,8 +9,8 @@ use lib.Dec.{eqb}
 use Rattle.walk.specs.Outcome.{Outcome, refused, answered}
 use Rattle.walk.specs.Refusals.{textFull}
 use Rattle.walk.proofs.ChoiceLaws.{cond-cases}
-use Rattle.entry_table.specs.Storing.{inserting}
-use Rattle.entry_table.specs.Carved.{seeding}
+use Rattle.additions.specs.Storing.{inserting}
+use Rattle.additions.specs.Carved.{seeding}
 use Rattle.chain.specs.Settings.{depth}
 use Rattle.path.specs.Alike.{Beside}
 use Rattle.path.proofs.TwoRuns.{with-text}

@@ -4,7 +4,7 @@ use Prim.Native.Nat.{ℕ}
 use mathlib.Core.Path.{_≡_, refl, ap}
 use mathlib.Core.List.{List, [], _∷_, map}
 use Rattle.walk.specs.Outcome.{Outcome, mapOutcome}
-use Rattle.rewind_index.specs.Calls.{calls, Left, callsLeave}
+use Rattle.rewind_run.specs.Calls.{calls, Left, callsLeave}
 use Rattle.masking.specs.Calls.{Sources, State, Call, nextText, Answer, step, rewindOf, Done, resultOf, nextResult, results}
 
 -- what the calls of a list come to, and the state after the last of them

@@ -8,13 +8,12 @@ use Rattle.walk.specs.Outcome.{Outcome, refused, answered, mapOutcome}
 use Rattle.walk.specs.Lists.{flatten, placeWords}
 use Rattle.walk.specs.Refusals.{textFull}
 use Rattle.walk.specs.declared.Place.{Place}
-use Rattle.entry_table.specs.Names.{lengthsOf}
-use Rattle.entry_table.specs.Table.{Table, table}
-use Rattle.entry_table.specs.Storing.{inserting, usedAfter}
-use Rattle.entry_table.specs.Storing.{wordsAfter as storedWords}
-use Rattle.entry_table.specs.Carved.{seeding}
-use Rattle.entry_table.specs.declared.EntryKey.{EntryKey}
-use Rattle.entry_table.specs.declared.EntryInfo.{EntryInfo}
+use Rattle.entry_slots.specs.Names.{lengthsOf}
+use Rattle.entry_slots.specs.Table.{Table, table}
+use Rattle.additions.specs.Storing.{inserting, usedAfter, wordsAfter as storedWords}
+use Rattle.additions.specs.Carved.{seeding}
+use Rattle.entry_slots.specs.declared.EntryKey.{EntryKey}
+use Rattle.entry_slots.specs.declared.EntryInfo.{EntryInfo}
 use Rattle.rewind.specs.Starting.{Tables, started, firstAfter, forwardAfter, begun as rewindBegun}
 use Rattle.rewind_records.specs.Turning.{Next}
 use Rattle.rewind_steps.specs.Taking.{Step}

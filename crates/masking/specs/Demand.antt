@@ -16,15 +16,14 @@ use Rattle.usn_carver.specs.Settings.{standard}
 use Rattle.usn_carver.specs.Carve.{events, carving, carvingList}
 use Rattle.usn_carver.specs.Masking.{NoOverlap, IfAnswered, carvedRecords}
 use Rattle.usn_reader.specs.Window.{windowSize}
-use Rattle.usn_reader.specs.Run.{readings, givenBy, freshOver, AllCarry, shapes}
-use Rattle.usn_reader.specs.Run.{Call as WindowCall}
+use Rattle.usn_reader.specs.Run.{readings, givenBy, freshOver, AllCarry, shapes, Call as WindowCall}
 use Rattle.mft_carver.specs.Settings.{standard as imageStandard}
 use Rattle.mft_carver.specs.Carve.{carving as imageCarving, carvingList as imageList}
 use Rattle.mft_carver.specs.Masking.{carvedEntries, carvedNames}
-use Rattle.entry_table.specs.Names.{lengthsOf}
-use Rattle.entry_table.specs.Table.{Table}
-use Rattle.entry_table.specs.declared.EntryKey.{EntryKey}
-use Rattle.entry_table.specs.declared.NamePlace.{NamePlace}
+use Rattle.entry_slots.specs.Names.{lengthsOf}
+use Rattle.entry_slots.specs.Table.{Table}
+use Rattle.entry_slots.specs.declared.EntryKey.{EntryKey}
+use Rattle.entry_slots.specs.declared.NamePlace.{NamePlace}
 use Rattle.chain.specs.Tracing.{tracing, chainAfter}
 use Rattle.path.specs.Alike.{Alike}
 use Rattle.path.specs.Telling.{telling, placing, decoding}

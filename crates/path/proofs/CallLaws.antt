@@ -1,30 +1,36 @@
 -- The ways out of the calls, by their tests: the outcome, and what the lent list and the text then hold. Assumes nothing.
-use Prim.Native.Nat.{ℕ, _+_, _≤_, _<_}
-use mathlib.Core.Path.{_≡_, ap, sym, _∙_}
-use mathlib.Core.List.{List}
-use mathlib.Core.Bool.{true, false}
+use Prim.Native.Nat.{ℕ, _+_, _-_, _*_, _≤_, _<_}
+use mathlib.Core.Path.{_≡_, refl, ap, sym, _∙_}
+use mathlib.Core.List.{List, []}
+use mathlib.Core.Bool.{Bool, true, false}
+use native.Mathlib.Omega.{arith}
 use native.Mathlib.Nat.{zero-add}
-use borrow.Author.Tests.{lt-ltb, le-ltb}
+use borrow.Author.Tests.{lt-ltb, le-ltb, ltb-true, ltb-false}
+use lib.Dec.{ltb}
 use lib.ListN.{length}
 use lib.Seq.{sets}
-use Rattle.walk.specs.Outcome.{Outcome, refused, answered, mapOutcome}
+use Rattle.walk.specs.Outcome.{Outcome, refused, answered}
 use Rattle.walk.specs.Refusals.{aboveDomain, nameOutside, textFull, domain}
 use Rattle.walk.proofs.ListLaws.{sets-front}
 use Rattle.utf16.specs.declared.Decoded.{Decoded}
 use Rattle.utf16.specs.declared.Decoded.the-variants as decoded
 use Rattle.utf16.proofs.PutLaws.{Put}
-use Rattle.entry_table.specs.Names.{lengthsOf, inside}
-use Rattle.entry_table.specs.Table.{Table}
-use Rattle.entry_table.specs.declared.EntryKey.{EntryKey}
-use Rattle.entry_table.specs.declared.NamePlace.{NamePlace}
+use Rattle.entry_slots.specs.Names.{lengthsOf, inside}
+use Rattle.entry_slots.specs.Slots.{stride}
+use Rattle.entry_slots.specs.Table.{Table}
+use Rattle.entry_slots.specs.declared.EntryKey.{EntryKey}
+use Rattle.entry_slots.specs.declared.NamePlace.{NamePlace}
 use Rattle.chain.specs.declared.ResolvedPath.{ResolvedPath}
 use Rattle.chain.specs.Chain.{Chain, chain, chainOf, resolved}
 use Rattle.chain.specs.Settings.{depth}
 use Rattle.chain.specs.Tracing.{tracing, listed, chainAfter}
-use Rattle.chain.proofs.CallLaws.{journal-above, image-above, both-within, answered-traced, traced-answered, map-refused}
+use Rattle.chain.proofs.CallLaws.{journal-above, image-above, both-within, chain-traced}
+use Rattle.entry_slots.proofs.IndexLaws.{none-indexed}
 use Rattle.path.specs.Text.{placeText, pathText}
 use Rattle.path.specs.Telling.{withText, placing}
-use Rattle.path.specs.Promise.{pathOut, Paths, decodeOut, Decodes}
+use Rattle.path.specs.Promise.{pathOut, Paths, decodeOut, Decodes, WayAsks, Behinds}
+use Rattle.path.specs.declared.ways.Behind.{Behind}
+use Rattle.path.specs.declared.ways.Behind.the-variants.{To, Full}
 use Rattle.path.specs.declared.PathAnswer.{PathAnswer}
 use Rattle.path.specs.declared.PathAnswer.the-variants.{Path, Refused}
 
@@ -49,26 +55,53 @@ module _ (journal image : List ℕ) (t : Table) (k : EntryKey) (x l : List ℕ) 
   refuses : {n : ℕ} → pathOut journal image t k x l ≡ refused n → Comes (Refused n) x l
   refuses e = record { answer = rw e; places = sym (ap (λ (o : Outcome Chain). chainAfter o x) e); written = rw e }
 
-  pub path-refused : {n : ℕ} → refused n ≡ mapOutcome resolved trail → Comes (Refused n) x l
-  path-refused e = refuses (rw (map-refused resolved trail e))
+  pub path-refused : {n : ℕ} → trail ≡ refused n → Comes (Refused n) x l
+  path-refused e = refuses (rw e)
 
-  module _ {p : ResolvedPath} (e : answered p ≡ mapOutcome resolved trail) where
-    is : trail ≡ answered (chainOf t depth k)
-    is = traced-answered (lengthsOf journal image) t depth k (answered-traced (lengthsOf journal image) t depth k e)
+  -- the tests have passed
+  pub path-asks : trail ≡ answered (chainOf t depth k) → WayAsks journal image t [] []
+  path-asks e =
+      let w = chain-traced (lengthsOf journal image) t depth k e in
+      let fits : t .used * stride ≤ length (t .words) = omega (arith, w .fits) in
+      record {
+        fits = fits;
+        index = none-indexed (t .words) [] [] (t .used) fits (omega arith) .1;
+        wide = λ p. absurd (omega arith);
+        insides = w .places;
+        near-journal = w .journal;
+        near-image = w .image;
+      }
 
-    pub path-full : {n : ℕ} → n ≡ length whole → length l < n → Comes (Refused textFull) x l
-    path-full f h = refuses (text-over (pathText journal image) (length l) is (rw f at h))
+  module _ (is : trail ≡ answered (chainOf t depth k)) {r : Behind} {o : List ℕ} (g : Behinds whole l 0 r o) where
+    -- there is no room, or there is
+    pub path-full : r ≡ Full → Comes (Refused textFull) x o
+    path-full f = go (ltb (length l - 0) (length whole)) refl
+      where
+        go : (b : Bool) → ltb (length l - 0) (length whole) ≡ b → Comes (Refused textFull) x o
+        go true q =
+            let text-is : o ≡ l = g .written ∙ rw q in
+            rw text-is (refuses (text-over (pathText journal image) (length l) is (omega (arith, ltb-true (length l - 0) (length whole) q))))
+        go false q =
+            let y : Full ≡ To (0 + length whole) = sym f ∙ g .answer ∙ rw q in
+            let z : _≡_ {A = ℕ} 0 1 = cc in
+            absurd (omega arith)
 
-    pub path-told : {n r : ℕ} {m o : List ℕ} → n ≡ length whole → n ≤ length l
-        → m ≡ listed x (chain t (depth + 1) k .places) → (r ≡ length whole) × (o ≡ sets l 0 whole) → Comes (Path p n) m o
-    path-told f h g q =
-        let fits : length whole ≤ length l = rw f at h in
-        let o = text-fits (pathText journal image) (length l) is fits in
-        record {
-          answer = rw (o, f, answered-traced (lengthsOf journal image) t depth k e .path);
-          places = rw o g;
-          written = rw o (q .1 ∙ sets-front l whole fits);
-        }
+    pub path-told : {to : ℕ} → r ≡ To to → {p : ResolvedPath} {m : List ℕ} → p ≡ resolved (chainOf t depth k) → m ≡ listed x (chainOf t depth k .places) → Comes (Path p to) m o
+    path-told {to} f {p} {m} path-is list-is = go (ltb (length l - 0) (length whole)) refl
+      where
+        go : (b : Bool) → ltb (length l - 0) (length whole) ≡ b → Comes (Path p to) m o
+        go true q = let y : To to ≡ Full = sym f ∙ g .answer ∙ rw q in let z : _≡_ {A = ℕ} 0 1 = cc in absurd (omega arith)
+        go false q =
+            let y : To to ≡ To (0 + length whole) = sym f ∙ g .answer ∙ rw q in
+            let to-is : to ≡ 0 + length whole = cc in
+            let fits : length whole ≤ length l = omega (arith, ltb-false (length l - 0) (length whole) q) in
+            let all = text-fits (pathText journal image) (length l) is fits in
+            let text-is : o ≡ sets l 0 whole = g .written ∙ rw q in
+            record {
+              answer = rw (all, to-is ∙ zero-add (length whole), path-is);
+              places = rw all list-is;
+              written = rw all (text-is ∙ sets-front l whole fits);
+            }
 
 -- decoding the name at a place
 module _ (journal image : List ℕ) (p : NamePlace) (l : List ℕ) where

@@ -8,8 +8,8 @@ use Rattle.utf16.specs.Utf16.{alone, codePoints, unitsAt}
 use Rattle.utf16.specs.Utf8.{utf8}
 use Rattle.utf16.specs.Text.{decoded}
 use Rattle.utf16.specs.Decimal.{digits}
-use Rattle.entry_table.specs.Names.{inside}
-use Rattle.entry_table.specs.Slots.{sameKey, findFrom, rows}
+use Rattle.entry_slots.specs.Names.{inside}
+use Rattle.entry_slots.specs.Slots.{sameKey, findFrom, rows}
 use Rattle.chain.specs.Chain.{isRoot, chain}
 use Rattle.chain.specs.Tracing.{inDomain, tracing}
 use Rattle.path.specs.Text.{unknownWord, unresolvedWord, keyText, endText, placeText, stepText, pathText}

@@ -1,7 +1,9 @@
 pub mod MarkerLaws
 pub mod NameLaws
 pub mod PathLaws
-pub mod MeasureLaws
+pub mod BoundLaws
+pub mod WayLaws
+pub mod BehindLaws
 pub mod CallLaws
 pub mod TwoRuns
 pub mod Examples

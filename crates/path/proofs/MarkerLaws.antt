@@ -10,7 +10,7 @@ use lib.Dec.{ltb}
 use Rattle.utf16.specs.Decimal.{decimal}
 use Rattle.utf16.proofs.DecimalLaws.{decimal-one, decimal-next, decimal-most}
 use Rattle.utf16.proofs.PutLaws.{Put, put-as, put-room, put-then}
-use Rattle.entry_table.specs.declared.EntryKey.{EntryKey}
+use Rattle.entry_slots.specs.declared.EntryKey.{EntryKey}
 use Rattle.chain.specs.declared.ChainEnd.{ChainEnd}
 use Rattle.chain.specs.declared.ChainEnd.the-variants.{Root, Unknown, Unresolved}
 use Rattle.path.specs.Text.{unknownWord, unresolvedWord, keyText, endText}

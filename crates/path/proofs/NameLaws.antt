@@ -10,8 +10,8 @@ use lib.Dec.{eqb}
 use Rattle.walk.specs.Refusals.{domain}
 use Rattle.utf16.specs.Text.{nameText}
 use Rattle.utf16.proofs.TextLaws.{name-most}
-use Rattle.entry_table.specs.Names.{lengthsOf, inside}
-use Rattle.entry_table.specs.declared.NamePlace.{NamePlace}
+use Rattle.entry_slots.specs.Names.{lengthsOf, inside}
+use Rattle.entry_slots.specs.declared.NamePlace.{NamePlace}
 use Rattle.path.specs.Text.{placeText, stepText, stepMost}
 
 module _ (journal image : List ℕ) (p : NamePlace) where

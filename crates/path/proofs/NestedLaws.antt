@@ -17,13 +17,13 @@ use Rattle.utf16.specs.Utf16.{alone, codePoints, unitsAt}
 use Rattle.utf16.specs.Utf8.{utf8}
 use Rattle.utf16.specs.Text.{decoded}
 use Rattle.utf16.specs.Decimal.{digits}
-use Rattle.entry_table.specs.Names.{lengths, inside, allInside}
-use Rattle.entry_table.specs.Slots.{sameKey, keyAt, infoAt, findFrom, rows, namesIn}
-use Rattle.entry_table.specs.declared.EntryKey.{EntryKey}
-use Rattle.entry_table.specs.declared.EntryInfo.{EntryInfo}
-use Rattle.entry_table.specs.declared.NamePlace.{NamePlace}
-use Rattle.entry_table.specs.declared.slots.Found.the-variants.{At}
-use Rattle.entry_table.proofs.FindLaws.{other-entry, same-self}
+use Rattle.entry_slots.specs.Names.{lengths, inside, allInside}
+use Rattle.entry_slots.specs.Slots.{sameKey, keyAt, infoAt, findFrom, rows, namesIn}
+use Rattle.entry_slots.specs.declared.EntryKey.{EntryKey}
+use Rattle.entry_slots.specs.declared.EntryInfo.{EntryInfo}
+use Rattle.entry_slots.specs.declared.NamePlace.{NamePlace}
+use Rattle.entry_slots.specs.declared.slots.Found.the-variants.{At}
+use Rattle.entry_slots.proofs.FindLaws.{other-entry, same-self}
 use Rattle.chain.specs.declared.ChainEnd.the-variants.{Root, Unresolved}
 use Rattle.chain.specs.Settings.{depth}
 use Rattle.chain.specs.Chain.{Chain, bare, under, isRoot, chain}
@@ -116,7 +116,7 @@ says : (n room : ℕ) → n ≤ length (nested 5 n) / 7 → allInside (lengths 2
 unfolding pathSays
 says n room u e =
     ap (λ (o : Outcome Chain). outcomeWords (pathText journalA []) (withText (pathText journalA []) room o))
-    (traced (lengths 2 0) (nestedTable n) 256 (lastKey n) (omega arith) (omega arith) u e ∙ ap answered (climb n 257 n (le-refl n)))
+    (traced (lengths 2 0) (nestedTable n) (omega arith) (omega arith) u 256 (lastKey n) e ∙ ap answered (climb n 257 n (le-refl n)))
 
 -- 256 names under 5:5 begin with the root
 pub nested-256 : pathSays (nestedTable 256) (lastKey 256) 513 ≡ 0 ∷ 0x2E ∷ timesA 256

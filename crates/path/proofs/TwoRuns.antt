@@ -11,10 +11,10 @@ use lib.Dec.{ltb}
 use Rattle.walk.specs.Outcome.{Outcome, refused, answered}
 use Rattle.walk.specs.Refusals.{aboveDomain, nameOutside, textFull, domain}
 use Rattle.walk.proofs.ChoiceLaws.{cond-cases}
-use Rattle.entry_table.specs.Names.{Lengths, lengthsOf, inside}
-use Rattle.entry_table.specs.Table.{Table}
-use Rattle.entry_table.specs.declared.EntryKey.{EntryKey}
-use Rattle.entry_table.specs.declared.NamePlace.{NamePlace}
+use Rattle.entry_slots.specs.Names.{Lengths, lengthsOf, inside}
+use Rattle.entry_slots.specs.Table.{Table}
+use Rattle.entry_slots.specs.declared.EntryKey.{EntryKey}
+use Rattle.entry_slots.specs.declared.NamePlace.{NamePlace}
 use Rattle.chain.specs.Tracing.{inDomain, tracing}
 use Rattle.chain.proofs.TwoRuns.{core-refusals}
 use Rattle.path.specs.Text.{placeText, pathText}

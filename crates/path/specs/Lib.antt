@@ -1,5 +1,6 @@
 pub mod Text
 pub mod Telling
+pub mod Ways
 pub mod Promise
 pub mod Alike
 pub mod Sample

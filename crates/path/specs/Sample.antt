@@ -2,9 +2,9 @@
 use Prim.Native.Nat.{ℕ, zero, suc, _+_}
 use mathlib.Core.List.{List, [], _∷_, _++_}
 use Rattle.walk.specs.Outcome.{outcomeWords}
-use Rattle.entry_table.specs.Slots.{entryWords}
-use Rattle.entry_table.specs.Table.{Table, table}
-use Rattle.entry_table.specs.declared.EntryKey.{EntryKey}
+use Rattle.entry_slots.specs.Slots.{entryWords}
+use Rattle.entry_slots.specs.Table.{Table, table}
+use Rattle.entry_slots.specs.declared.EntryKey.{EntryKey}
 use Rattle.chain.specs.Settings.{depth}
 use Rattle.path.specs.Text.{pathText}
 use Rattle.path.specs.Telling.{telling}

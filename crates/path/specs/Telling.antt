@@ -6,10 +6,10 @@ use lib.ListN.{length}
 use lib.Dec.{ltb}
 use Rattle.walk.specs.Outcome.{Outcome, refused, answered}
 use Rattle.walk.specs.Refusals.{nameOutside, textFull}
-use Rattle.entry_table.specs.Names.{Lengths, lengthsOf, inside}
-use Rattle.entry_table.specs.Table.{Table}
-use Rattle.entry_table.specs.declared.EntryKey.{EntryKey}
-use Rattle.entry_table.specs.declared.NamePlace.{NamePlace}
+use Rattle.entry_slots.specs.Names.{Lengths, lengthsOf, inside}
+use Rattle.entry_slots.specs.Table.{Table}
+use Rattle.entry_slots.specs.declared.EntryKey.{EntryKey}
+use Rattle.entry_slots.specs.declared.NamePlace.{NamePlace}
 use Rattle.chain.specs.declared.ResolvedPath.{ResolvedPath}
 use Rattle.path.specs.declared.PathAnswer.{PathAnswer}
 use Rattle.path.specs.declared.PathAnswer.the-variants.{Path, Refused}

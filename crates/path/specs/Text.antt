@@ -5,13 +5,12 @@ use lib.ListN.{length}
 use Rattle.walk.specs.Lists.{flatten}
 use Rattle.utf16.specs.Text.{nameText}
 use Rattle.utf16.specs.Decimal.{decimal}
-use Rattle.entry_table.specs.Names.{sourceOf}
-use Rattle.entry_table.specs.declared.EntryKey.{EntryKey}
-use Rattle.entry_table.specs.declared.NamePlace.{NamePlace}
+use Rattle.entry_slots.specs.Names.{sourceOf}
+use Rattle.entry_slots.specs.declared.EntryKey.{EntryKey}
+use Rattle.entry_slots.specs.declared.NamePlace.{NamePlace}
 use Rattle.chain.specs.declared.ChainEnd.{ChainEnd}
 use Rattle.chain.specs.declared.ChainEnd.the-variants.{Root, Unknown, Unresolved}
 use Rattle.chain.specs.Chain.{Chain}
-use Rattle.path.specs.declared.text.Measured.{Measured}
 
 -- UNKNOWN( and UNRESOLVED(
 abbrev pub unknownWord : List ℕ
@@ -51,7 +50,3 @@ namesText journal image ps = flatten (stepText journal image) ps
 -- the whole path
 unfoldable pub pathText : List ℕ → List ℕ → Chain → List ℕ
 pathText journal image c = endText (c .end) ++ namesText journal image (c .places)
-
--- the end of a chain, and how many bytes its names take
-abbrev pub measured : List ℕ → List ℕ → Chain → Measured
-measured journal image c = record { end = c .end; names = length (namesText journal image (c .places)) }

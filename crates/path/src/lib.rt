@@ -6,20 +6,19 @@
 // Every function here is proved. No call has a `requires`: any table, key and place get an answer. Of journal and image the
 // lengths decide all but the text and whether it fits.
 pub mod text;
+pub mod ways;
 
 ghost use Rattle.path.specs.Promise.{PathPromise, DecodePromise};
-use crate::text::path_length;
 use crate::text::place_length;
-use crate::text::put_path;
 use crate::text::put_place;
-use chain::ChainAnswer;
-use chain::DEPTH;
+use crate::ways::Behind;
+use crate::ways::put_path;
 use chain::ResolvedPath;
 use chain::places::list_chain;
-use chain::tracing::trace;
-use entry_table::EntryKey;
-use entry_table::NamePlace;
-use entry_table::names::is_inside;
+use chain::tracing::refusal;
+use entry_slots::EntryKey;
+use entry_slots::NamePlace;
+use entry_slots::names::is_inside;
 use utf16::Decoded;
 use walk::ABOVE_DOMAIN;
 use walk::DOMAIN;
@@ -46,18 +45,16 @@ pub fn path(
 ) -> PathAnswer
     ensures { λ r. ⌜ PathPromise journal image slots used key list text r ⌝ }
 {
-    match trace(journal.len(), image.len(), slots, used, key, DEPTH) {
-        ChainAnswer::Refused(n) => PathAnswer::Refused(n),
-        ChainAnswer::Resolved(path) => {
-            let end = path.end;
-            let n = path_length(journal, image, slots, used, key, DEPTH + 1, end);
-            if text.len() < n {
-                return PathAnswer::Refused(TEXT_FULL);
-            }
-            list_chain(slots, used, key, DEPTH + 1, list, path.names);
-            put_path(journal, image, slots, used, key, DEPTH + 1, end, text);
+    let n = refusal(journal.len(), image.len(), slots, used);
+    if n != 0 {
+        return PathAnswer::Refused(n);
+    }
+    match put_path(journal, image, slots, used, key, text) {
+        Behind::To(n) => {
+            let path = list_chain(slots, used, key, list);
             PathAnswer::Path { path, text: n }
         }
+        Behind::Full => PathAnswer::Refused(TEXT_FULL),
     }
 }
 

@@ -12,7 +12,7 @@ ghost use Prim.Native.Nat.{_+_, _/_, _^_, _≤_, _<_};
 ghost use lib.ListN.{length};
 use crate::batch::BATCH;
 use crate::batch::read_batch;
-use entry_table::slots::STRIDE;
+use entry_slots::slots::STRIDE;
 
 // How many folders are met above each record.
 const LEVELS: usize = 4;

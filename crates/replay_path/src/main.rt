@@ -4,9 +4,9 @@
 // with an empty table; 2 the program's image; 3 insert and 4 insert if absent, seven words; 5 seed, nine words an entry; 6 a path,
 // the two words of its key; 7 a name, the three words of its place. A word has eight bytes. The file `stdout` beside src/ holds
 // what the original answered; tests/differential wrote both (--record).
-use entry_table::EntryInfo;
-use entry_table::EntryKey;
-use entry_table::NamePlace;
+use entry_slots::EntryInfo;
+use entry_slots::EntryKey;
+use entry_slots::NamePlace;
 use entry_table::Stored;
 use libc::STDIN_FILENO;
 use libc::STDOUT_FILENO;
@@ -123,11 +123,11 @@ fn call(
 ) -> usize {
     match kind {
         3 => stored(
-            entry_index::insert(journal, image, slots, used, key_in(words), info_in(words)),
+            entry_table::insert(journal, image, slots, used, key_in(words), info_in(words)),
             used,
         ),
         4 => stored(
-            entry_index::insert_if_absent(
+            entry_table::insert_if_absent(
                 journal,
                 image,
                 slots,
@@ -206,7 +206,7 @@ fn seed_first(
         return used;
     }
     stored(
-        entry_index::seed(journal, image, slots, used, &list[..n]),
+        entry_table::seed(journal, image, slots, used, &list[..n]),
         used,
     )
 }

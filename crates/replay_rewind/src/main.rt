@@ -103,7 +103,7 @@ fn seed_first(journal: &[u8], image: &[u8], entries: &[u64], n: usize, slots: &m
     if entries.len() / ENTRY_WORDS < n {
         return 0;
     }
-    match entry_index::seed(journal, image, slots, 0, &entries[..n * ENTRY_WORDS]) {
+    match entry_table::seed(journal, image, slots, 0, &entries[..n * ENTRY_WORDS]) {
         Stored::Used(used) => used,
         Stored::Refused(n) => {
             write_refused(n);

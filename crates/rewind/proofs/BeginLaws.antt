@@ -5,9 +5,9 @@ use mathlib.Core.List.{List}
 use native.Mathlib.Omega.{arith}
 use lib.ListN.{length}
 use Rattle.walk.specs.Outcome.{Outcome, refused, answered, mapOutcome}
-use Rattle.entry_table.specs.Table.{Table}
-use Rattle.entry_index.specs.Index.{headsOf, nextsOf, headsAfter, nextsAfter}
-use Rattle.entry_index.proofs.SeedLaws.{index-then}
+use Rattle.entry_slots.specs.Table.{Table}
+use Rattle.entry_slots.specs.Index.{headsOf, nextsOf, headsAfter, nextsAfter}
+use Rattle.entry_table.proofs.SeedLaws.{index-then}
 use Rattle.rewind.specs.Starting.{Tables, started, begun}
 use Rattle.rewind.specs.Promise.{Starts, firstOut, Begins}
 use Rattle.rewind.specs.declared.Started.{Started}

@@ -11,17 +11,17 @@ use lib.Dec.{leb, ltb}
 use Rattle.walk.specs.Outcome.{Outcome, refused, answered}
 use Rattle.walk.specs.Refusals.{tableFull}
 use Rattle.walk.proofs.ListLaws.{sets-front}
-use Rattle.entry_table.specs.Slots.{stride, slotsIn}
-use Rattle.entry_table.specs.Table.{Table, known, addAll}
-use Rattle.entry_table.specs.Storing.{newKeys, keysOf, adding, usedAfter, wordsAfter}
-use Rattle.entry_table.proofs.CountLaws.{adding-room, used-all}
-use Rattle.entry_table.proofs.KeptLaws.{all-kept}
+use Rattle.entry_slots.specs.Slots.{stride, slotsIn}
+use Rattle.entry_slots.specs.Table.{Table, known}
+use Rattle.additions.specs.Storing.{addAll, newKeys, keysOf, adding, usedAfter, wordsAfter}
+use Rattle.additions.proofs.CountLaws.{adding-room, used-all}
+use Rattle.additions.proofs.KeptLaws.{all-kept}
 use Rattle.rewind_records.specs.Environment.{Environment, environmentOf, refusalOf, additions}
 use Rattle.rewind.specs.Starting.{copied, starting, started}
 use Rattle.rewind.specs.Promise.{Starts}
 use Rattle.rewind.specs.declared.Started.{Started}
 use Rattle.rewind.specs.declared.Started.the-variants.{Begun, Refused}
-use Rattle.rewind_records.specs.Walking.{walkedBack}
+use Rattle.additions.specs.Walking.{walkedBack}
 use Rattle.rewind_records.proofs.RecordLaws.{additions-back}
 use Rattle.rewind_records.proofs.TurnLaws.{passed, tested-refused, tested-passed}
 

@@ -11,21 +11,21 @@ use Rattle.walk.specs.Outcome.{Outcome, refused, answered, mapOutcome}
 use Rattle.walk.specs.Refusals.{textFull}
 use Rattle.walk.proofs.ChoiceLaws.{cond-cases}
 use Rattle.walk.proofs.ListLaws.{sets-front}
-use Rattle.entry_table.specs.Names.{lengthsOf, inside}
-use Rattle.entry_table.specs.Slots.{stride, slotsIn}
-use Rattle.entry_table.specs.Table.{Table, table, Addition}
-use Rattle.entry_table.specs.Storing.{adding, usedAfter, wordsAfter}
-use Rattle.entry_table.proofs.AddLaws.{Added, adding-added, added-fits, added-none, added-table}
-use Rattle.entry_index.proofs.AddLaws.{none-indexed}
+use Rattle.entry_slots.specs.Names.{lengthsOf, inside}
+use Rattle.entry_slots.specs.Slots.{stride, slotsIn}
+use Rattle.entry_slots.specs.Table.{Table, table, Addition}
+use Rattle.additions.specs.Storing.{adding, usedAfter, wordsAfter}
+use Rattle.additions.proofs.OneLaws.{Added, adding-added, added-fits, added-none, added-table}
+use Rattle.entry_slots.proofs.IndexLaws.{none-indexed}
 use Rattle.chain.specs.Settings.{depth}
 use Rattle.chain.specs.declared.ResolvedPath.{ResolvedPath}
 use Rattle.chain.specs.Chain.{chainOf, resolved}
 use Rattle.chain.specs.Tracing.{listed}
 use Rattle.path.specs.Telling.{withText}
 use Rattle.path.proofs.CallLaws.{text-fits}
-use Rattle.rewind_records.specs.Entries.{forward}
-use Rattle.rewind_records.specs.Environment.{Environment, environmentOf, recordsIn, offsetIn, entriesOf, refusalOf}
-use Rattle.rewind_records.specs.Walking.{entryIn}
+use Rattle.additions.specs.Entries.{forward}
+use Rattle.rewind_records.specs.Environment.{Environment, environmentOf, entriesOf, refusalOf}
+use Rattle.additions.specs.Walking.{recordsIn, offsetIn, entryIn}
 use Rattle.rewind.specs.Stepping as step
 use Rattle.rewind_records.specs.Turning.{Next, ended, next, firstOf, turning, turnOutcome}
 use Rattle.rewind_steps.specs.Taking.{Step, stepOf}
@@ -40,12 +40,12 @@ use Rattle.rewind.specs.declared.ChainStep.{ChainStep}
 use Rattle.rewind.specs.declared.NextChain.the-variants as chained
 use Rattle.rewind.specs.declared.PathStep.{PathStep}
 use Rattle.rewind.specs.declared.NextPath.the-variants as path
-use Rattle.rewind_records.specs.declared.entries.RecordEntry.{RecordEntry}
+use Rattle.additions.specs.declared.entries.RecordEntry.{RecordEntry}
 use Rattle.rewind_records.specs.declared.turn.Turn.{Turn}
 use Rattle.rewind_records.specs.declared.turn.Turn.the-variants as turn
 use Rattle.rewind_steps.specs.declared.Made.{Made}
 use Rattle.rewind_steps.specs.declared.Made.the-variants.{To, End, Refused}
-use Rattle.rewind_records.proofs.EntryLaws.{entry-inside}
+use Rattle.additions.proofs.EntryLaws.{entry-inside}
 use Rattle.rewind_records.proofs.RecordLaws.{number-answered, next-is, none-left}
 use Rattle.rewind_records.proofs.TurnLaws.{Passed, passed}
 

@@ -9,14 +9,14 @@ use lib.Dec.{ltb, eqb}
 use Rattle.walk.specs.Outcome.{Outcome, refused, answered, mapOutcome}
 use Rattle.walk.specs.Refusals.{textFull, domain}
 use Rattle.walk.proofs.ChoiceLaws.{cond-cases}
-use Rattle.entry_table.specs.Names.{allInside}
-use Rattle.entry_table.specs.Slots.{slotsIn, namesIn}
-use Rattle.entry_table.specs.Table.{Table, Addition}
-use Rattle.entry_table.specs.Storing.{adding}
-use Rattle.entry_table.specs.InTurn.{andThen}
+use Rattle.entry_slots.specs.Names.{allInside}
+use Rattle.entry_slots.specs.Slots.{slotsIn, namesIn}
+use Rattle.entry_slots.specs.Table.{Table, Addition}
+use Rattle.additions.specs.Storing.{adding}
+use Rattle.additions.specs.InTurn.{andThen}
 use Rattle.chain.specs.Settings.{depth}
 use Rattle.path.proofs.TwoRuns.{Answers, retried}
-use Rattle.rewind_records.specs.Entries.{forward}
+use Rattle.additions.specs.Entries.{forward}
 use Rattle.rewind_records.specs.Environment.{Environment, environmentOf, allAnswered, refusalOf, tested}
 use Rattle.rewind.specs.Starting.{usedBackward, starting}
 use Rattle.rewind_records.specs.Turning.{Next, ended, next, turning}
@@ -25,7 +25,7 @@ use Rattle.rewind.specs.Stepping.{forwardTable, stepping, stepped}
 use Rattle.rewind_steps.specs.Telling.{nextText}
 use Rattle.rewind.specs.Telling.{told}
 use Rattle.rewind.specs.declared.Rewind.{Rewind}
-use Rattle.rewind_records.specs.declared.entries.RecordEntry.{RecordEntry}
+use Rattle.additions.specs.declared.entries.RecordEntry.{RecordEntry}
 
 -- an outcome that is not 8
 abbrev pub NotFull : {A : Type 0} → Outcome A → Type 0

@@ -6,8 +6,9 @@ use lib.ListN.{length}
 use Rattle.walk.specs.Lent.{Lent, before, after}
 use Rattle.walk.specs.Lists.{listAfter}
 use Rattle.walk.specs.Outcome.{Outcome, mapOutcome}
-use Rattle.entry_table.specs.Table.{Table, table}
-use Rattle.entry_index.specs.Index.{headsAfter, nextsAfter}
+use Rattle.entry_slots.specs.Slots.{slotsIn}
+use Rattle.entry_slots.specs.Table.{Table, table}
+use Rattle.entry_slots.specs.Index.{headsAfter, nextsAfter, headsLeft, nextsLeft}
 use Rattle.rewind.specs.Starting.{Tables, started, begun, firstAfter, forwardAfter, startOutcome}
 use Rattle.rewind_records.specs.Turning.{Next}
 use Rattle.rewind_steps.specs.Taking.{Step}
@@ -43,9 +44,19 @@ module _ (journal image records : List ℕ) (t : Table) (words heads nexts : Lis
     pub heads-are : heads′ ≡ headsAfter firstOut heads
     pub nexts-are : nexts′ ≡ nextsAfter (length heads) firstOut nexts
 
+  -- the same with words that may be too few
+  pub record StartsIndexed (r : Started) (first′ words′ heads′ nexts′ : List ℕ) : Type 0 where
+    pub start : Starts journal image records t words r first′ words′
+    pub heads-are : heads′ ≡ headsLeft (slotsIn (t .words)) firstOut heads nexts
+    pub nexts-are : nexts′ ≡ nextsLeft (slotsIn (t .words)) firstOut heads nexts
+
 abbrev pub BeginPromise : Lent → Lent → Lent → Lent → ℕ → Lent → Lent → Lent → Started → Type 0
 BeginPromise journal image records slots used forward heads nexts r =
     Begins (before journal) (before image) (before records) (table (before slots) used) (before forward) (before heads) (before nexts) r (after slots) (after forward) (after heads) (after nexts)
+
+abbrev pub StartIndexedPromise : Lent → Lent → Lent → Lent → ℕ → Lent → Lent → Lent → Started → Type 0
+StartIndexedPromise journal image records slots used forward heads nexts r =
+    StartsIndexed (before journal) (before image) (before records) (table (before slots) used) (before forward) (before heads) (before nexts) r (after slots) (after forward) (after heads) (after nexts)
 
 -- a step without text: its answer, the state after it, the words of the forward table and the list of places
 module _ (journal image records words : List ℕ) (rewind : Rewind) (list : List ℕ) where

@@ -7,9 +7,9 @@ use lib.Dec.{ltb}
 use Rattle.walk.specs.Outcome.{Outcome, refused, answered}
 use Rattle.walk.specs.Lists.{overwrite}
 use Rattle.walk.specs.Refusals.{tableFull}
-use Rattle.entry_table.specs.Slots.{stride, slotsIn}
-use Rattle.entry_table.specs.Table.{Table, table, known, addAll}
-use Rattle.entry_table.specs.Storing.{newKeys, keysOf}
+use Rattle.entry_slots.specs.Slots.{stride, slotsIn}
+use Rattle.entry_slots.specs.Table.{Table, table, known}
+use Rattle.additions.specs.Storing.{addAll, newKeys, keysOf}
 use Rattle.rewind_records.specs.Environment.{Environment, environmentOf, additions, tested}
 use Rattle.rewind.specs.declared.Rewind.{Rewind}
 use Rattle.rewind.specs.declared.Started.{Started}

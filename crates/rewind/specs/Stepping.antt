@@ -2,8 +2,8 @@
 use Prim.Native.Nat.{ℕ, _+_}
 use mathlib.Core.List.{List}
 use Rattle.walk.specs.Outcome.{Outcome, refused, answered, mapOutcome}
-use Rattle.entry_table.specs.Table.{Table, table}
-use Rattle.entry_table.specs.InTurn.{andThen}
+use Rattle.entry_slots.specs.Table.{Table, table}
+use Rattle.additions.specs.InTurn.{andThen}
 use Rattle.chain.specs.Settings.{depth}
 use Rattle.chain.specs.Chain.{resolved}
 use Rattle.chain.specs.Tracing.{listed}

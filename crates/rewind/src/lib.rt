@@ -5,21 +5,22 @@
 // tells the path of the record's parent there; the record's own path is that path, a backslash and its name.
 //
 // The records come as a reader lists them, two words a record, of which the offset counts; each is read again at its offset.
-// The tables are those of `entry_table`. The state, how many slots of the forward table are used and which record is next,
+// The tables are those of `entry_slots`. The state, how many slots of the forward table are used and which record is next,
 // goes in and comes back by value.
 //
 // Every function here is proved. No call has a `requires`: any bytes, lists, tables and states get an answer. Names decide
 // nothing but the text and whether it fits.
-pub mod start;
-pub mod telling;
+mod start;
 
-ghost use Rattle.rewind.specs.Promise.{StartPromise, NextPromise, NextChainPromise};
+ghost use Rattle.rewind.specs.Promise.{StartPromise, StartIndexedPromise, NextPromise, NextChainPromise};
 use crate::start::begin;
-use crate::telling::chain_of;
+use additions::entries::replaces_forward;
 use chain::ResolvedPath;
-use entry_index::plain::add;
+use chain::places::list_chain;
+use entry_slots::links::is_enough;
+use entry_slots::slots::STRIDE;
 use entry_table::Stored;
-use rewind_records::entries::replaces_forward;
+use entry_table::adding::add;
 use rewind_records::turn::Turn;
 use rewind_records::turn::next_record;
 use rewind_steps::Made;
@@ -92,6 +93,36 @@ pub fn rewind_start(
     )
 }
 
+// What rewind_start does, by way of an index of the first table, for which words are lent, whatever they hold. Where these are too
+// few, it does without. With fewer slots than the used ones and all records need, it passes over them to count the new keys, as
+// rewind_start does.
+pub fn rewind_start_indexed(
+    journal: &[u8],
+    image: &[u8],
+    records: &[usize],
+    slots: &mut [u64],
+    used: usize,
+    forward: &mut [u64],
+    heads: &mut [u64],
+    nexts: &mut [u64],
+) -> Started
+    ensures { λ r. ⌜ StartIndexedPromise journal image records slots used forward heads nexts r ⌝ }
+{
+    if is_enough(slots.len() / STRIDE, heads, nexts) {
+        return begin(journal, image, records, slots, used, forward, heads, nexts);
+    }
+    begin(
+        journal,
+        image,
+        records,
+        slots,
+        used,
+        forward,
+        &mut heads[..0],
+        nexts,
+    )
+}
+
 // The next record goes into the forward table: with a new name or a creation it is inserted, otherwise it is added if its key
 // is new. The places of its parent's path, in the table with it, go to the lent list, as path_chain leaves them, and its own
 // path, the parent's, a backslash and its name, to the front of the lent text.
@@ -141,12 +172,9 @@ pub fn rewind_next(
             ) {
                 Made::To { at: n, used } => {
                     let info = entry.info;
-                    let above = chain_of(forward, used, info.parent, list);
+                    let path = list_chain(forward, used, info.parent, list);
                     PathStep {
-                        next: NextPath::Record {
-                            path: above,
-                            text: n,
-                        },
+                        next: NextPath::Record { path, text: n },
                         rewind: Rewind {
                             used,
                             position: rewind.position + 1,
@@ -207,9 +235,9 @@ pub fn rewind_next_chain(
             },
             Stored::Used(used) => {
                 let info = entry.info;
-                let path = chain_of(forward, used, info.parent, list);
+                let above = list_chain(forward, used, info.parent, list);
                 ChainStep {
-                    next: NextChain::Record(path),
+                    next: NextChain::Record(above),
                     rewind: Rewind {
                         used,
                         position: rewind.position + 1,

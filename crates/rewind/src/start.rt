@@ -1,22 +1,22 @@
 // The start of a rewind by way of an index of the first table.
 ghost use Prim.Native.Nat.{_≤_, _<_};
 ghost use lib.ListN.{length};
-ghost use Rattle.entry_table.specs.Slots.{slotsIn};
+ghost use Rattle.entry_slots.specs.Slots.{slotsIn};
 ghost use Rattle.rewind.specs.Promise.{BeginPromise};
 use crate::Rewind;
 use crate::Started;
-use entry_index::links::build;
+use additions::room::records_fit;
+use entry_slots::links::build;
+use entry_slots::slots::STRIDE;
 use entry_table::Stored;
-use entry_table::slots::STRIDE;
 use rewind_records::backward::add_backward;
-use rewind_records::backward::has_room;
 use rewind_records::turn::refusal;
 use walk::TABLE_FULL;
 use walk::put_words;
 
 // What `rewind_start` does with words for an index that are enough, or with no heads. The index is built after the tests, and kept
 // with every addition.
-pub fn begin(
+pub(crate) fn begin(
     journal: &[u8],
     image: &[u8],
     records: &[usize],
@@ -33,10 +33,10 @@ pub fn begin(
     if refused != 0 {
         return Started::Refused(refused);
     }
-    if !has_room(journal, records, slots, used, slots.len() / STRIDE) {
+    if !records_fit(journal, records, slots, used, slots.len() / STRIDE) {
         return Started::Refused(TABLE_FULL);
     }
-    if !has_room(journal, records, slots, used, forward.len() / STRIDE) {
+    if !records_fit(journal, records, slots, used, forward.len() / STRIDE) {
         return Started::Refused(TABLE_FULL);
     }
     build(slots, used, heads, nexts);

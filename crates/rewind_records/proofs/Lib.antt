@@ -1,3 +1,2 @@
-pub mod EntryLaws
 pub mod RecordLaws
 pub mod TurnLaws

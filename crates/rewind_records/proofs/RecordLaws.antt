@@ -11,14 +11,14 @@ use Rattle.walk.specs.Outcome.{Outcome, refused, answered}
 use Rattle.walk.specs.Lists.{every}
 use Rattle.walk.proofs.ChoiceLaws.{and-left, and-right}
 use Rattle.usn_record.specs.Record.{isAnswered}
-use Rattle.entry_table.specs.Slots.{rows}
-use Rattle.entry_table.proofs.RowLaws.{rows-next, rows-end, map-rows}
-use Rattle.entry_table.proofs.NameLaws.{every-at}
-use Rattle.rewind_records.specs.Entries.{entryAt, entryOr, backward}
-use Rattle.rewind_records.specs.Environment.{environmentWith, recordsIn, offsetIn, offsetsIn, allAnswered, entriesOf, additions}
-use Rattle.rewind_records.specs.Walking.{entryIn, walkedBack}
+use Rattle.entry_slots.specs.Slots.{rows}
+use Rattle.entry_slots.proofs.RowLaws.{rows-next, rows-end, map-rows}
+use Rattle.entry_slots.proofs.NameLaws.{every-at}
+use Rattle.additions.specs.Entries.{entryAt, entryOr, backward}
+use Rattle.rewind_records.specs.Environment.{environmentWith, allAnswered, entriesOf, additions}
+use Rattle.additions.specs.Walking.{recordsIn, offsetIn, offsetsIn, entryIn, walkedBack}
 use Rattle.rewind_records.specs.Turning.{ended, next, firstOf}
-use Rattle.rewind_records.specs.declared.entries.RecordEntry.{RecordEntry}
+use Rattle.additions.specs.declared.entries.RecordEntry.{RecordEntry}
 
 -- the last row, rows one on, and rows turned round
 rows-last : {A : Type 0} (f : ℕ → A) (i n : ℕ) → rows f i (suc n) ≡ rows f i n ++ (f (i + n) ∷ [])
@@ -112,7 +112,3 @@ module _ (journal l : List ℕ) where
 
     pub none-left : {p : ℕ} → recordsIn l ≤ p → firstOf (drop p (entriesOf (map (entryAt journal) (offsetsIn l)))) ≡ ended
     none-left {p} h = ap firstOf (rest p ∙ rows-end (entryIn journal l) p (recordsIn l) h)
-
--- a table with more slots used than there are has no room
-pub room-short : (used more slots : ℕ) → slots < used → false ≡ leb (used + more) slots
-room-short used more slots h = sym (lt-leb (used + more) slots (omega arith))

@@ -10,13 +10,13 @@ use lib.Dec.{ltb}
 use Rattle.walk.specs.Outcome.{Outcome, refused, answered}
 use Rattle.walk.specs.Refusals.{aboveDomain, badState, notARecord, nameOutside, domain}
 use Rattle.walk.proofs.ChoiceLaws.{cond-cases, or-left, or-right}
-use Rattle.entry_table.specs.Names.{allInside}
-use Rattle.entry_table.specs.Slots.{slotsIn, namesIn}
-use Rattle.entry_table.specs.Table.{Table}
-use Rattle.rewind_records.specs.Environment.{Environment, environmentWith, recordsIn, allAnswered, entriesOf, refusalOf, tested}
-use Rattle.rewind_records.specs.Walking.{entryIn}
+use Rattle.entry_slots.specs.Names.{allInside}
+use Rattle.entry_slots.specs.Slots.{slotsIn, namesIn}
+use Rattle.entry_slots.specs.Table.{Table}
+use Rattle.rewind_records.specs.Environment.{Environment, environmentWith, allAnswered, entriesOf, refusalOf, tested}
+use Rattle.additions.specs.Walking.{recordsIn, entryIn}
 use Rattle.rewind_records.specs.Turning.{Next, ended, next, firstOf, turning}
-use Rattle.rewind_records.specs.declared.entries.RecordEntry.{RecordEntry}
+use Rattle.additions.specs.declared.entries.RecordEntry.{RecordEntry}
 use Rattle.rewind_records.proofs.RecordLaws.{next-is, none-left}
 
 module _ (env : Environment) (t : Table) where

@@ -1,18 +1,19 @@
 -- What rewinds know of a journal and an image: their lengths, and what the listed records say. They never see the bytes.
-use Prim.Native.Nat.{ℕ, _*_, _/_}
+use Prim.Native.Nat.{ℕ}
 use mathlib.Core.List.{List, [], _∷_, map, reverse}
 use mathlib.Core.Bool.{Bool, cond, not, _||_}
-use lib.ListN.{length, getD}
+use lib.ListN.{length}
 use lib.Dec.{ltb, eqb}
 use Rattle.walk.specs.Outcome.{Outcome, refused, answered}
 use Rattle.walk.specs.Lists.{every}
 use Rattle.walk.specs.Refusals.{aboveDomain, badState, notARecord, nameOutside, domain}
 use Rattle.usn_record.specs.Record.{isAnswered}
-use Rattle.entry_table.specs.Names.{Lengths, lengths, allInside}
-use Rattle.entry_table.specs.Slots.{slotsIn, namesIn, rows}
-use Rattle.entry_table.specs.Table.{Table, Addition}
-use Rattle.rewind_records.specs.Entries.{entryAt, backward}
-use Rattle.rewind_records.specs.declared.entries.RecordEntry.{RecordEntry}
+use Rattle.entry_slots.specs.Names.{Lengths, lengths, allInside}
+use Rattle.entry_slots.specs.Slots.{slotsIn, namesIn}
+use Rattle.entry_slots.specs.Table.{Table, Addition}
+use Rattle.additions.specs.Entries.{entryAt, backward}
+use Rattle.additions.specs.Walking.{offsetsIn}
+use Rattle.additions.specs.declared.entries.RecordEntry.{RecordEntry}
 
 -- the records in their order, each as its entry or as 12
 pub record Environment : Type 0 where
@@ -22,16 +23,6 @@ pub record Environment : Type 0 where
 -- that of the records at these offsets of a journal, beside an image of some length
 abbrev pub environment : List ℕ → ℕ → List ℕ → Environment
 environment journal image offsets = record { lengths = lengths (length journal) image; records = map (entryAt journal) offsets }
-
--- a reader's list has two words a record, of which the first, its offset, counts; an odd last word is ignored
-abbrev pub recordsIn : List ℕ → ℕ
-recordsIn l = length l / 2
-
-abbrev pub offsetIn : List ℕ → ℕ → ℕ
-offsetIn l i = getD l (i * 2) 0
-
-abbrev pub offsetsIn : List ℕ → List ℕ
-offsetsIn l = rows (offsetIn l) 0 (recordsIn l)
 
 -- that of a list of words, beside an image of some length
 abbrev pub environmentWith : List ℕ → ℕ → List ℕ → Environment

@@ -1,4 +1,2 @@
-pub mod Entries
 pub mod Environment
-pub mod Walking
 pub mod Turning

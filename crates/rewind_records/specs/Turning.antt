@@ -3,9 +3,9 @@ use Prim.Native.Nat.{ℕ}
 use mathlib.Core.List.{List, [], _∷_}
 use lib.ListN.{drop}
 use Rattle.walk.specs.Outcome.{Outcome, refused, answered}
-use Rattle.entry_table.specs.Table.{Table}
+use Rattle.entry_slots.specs.Table.{Table}
 use Rattle.rewind_records.specs.Environment.{Environment, entriesOf, tested}
-use Rattle.rewind_records.specs.declared.entries.RecordEntry.{RecordEntry}
+use Rattle.additions.specs.declared.entries.RecordEntry.{RecordEntry}
 use Rattle.rewind_records.specs.declared.turn.Turn.{Turn}
 use Rattle.rewind_records.specs.declared.turn.Turn.the-variants as turn
 

@@ -1,18 +1,44 @@
 // What comes before the work of every rewind call: the refusals in their order, and the record that is next.
 ghost use mathlib.Core.Path.{_≡_};
-ghost use Rattle.entry_table.specs.Table.{table};
-ghost use Rattle.rewind_records.specs.Environment.{environmentWith, refusalOf};
+ghost use mathlib.Core.List.{map};
+ghost use Rattle.usn_record.specs.Record.{isAnswered};
+ghost use Rattle.additions.specs.Entries.{entryAt};
+ghost use Rattle.additions.specs.Walking.{offsetsIn};
+ghost use Rattle.entry_slots.specs.Table.{table};
+ghost use Rattle.rewind_records.specs.Environment.{allAnswered, environmentWith, refusalOf};
 ghost use Rattle.rewind_records.specs.Turning.{turning, turnOutcome};
-use crate::entries::RecordEntry;
-use crate::entries::all_records;
-use crate::entries::entry_at;
-use entry_table::names::all_inside;
-use entry_table::slots::STRIDE;
+use additions::entries::RecordEntry;
+use additions::entries::entry_at;
+use entry_slots::names::all_inside;
+use entry_slots::slots::STRIDE;
+use usn_record::listed::is_listed;
 use walk::ABOVE_DOMAIN;
 use walk::BAD_STATE;
 use walk::DOMAIN;
 use walk::NAME_OUTSIDE;
 use walk::NOT_A_RECORD;
+
+// Whether a record stands at an offset.
+fn is_record(journal: &[u8], offset: usize) -> bool
+    ensures { λ r. ⌜ r ≡ isAnswered (entryAt (now (journal .entry)) offset) ⌝ }
+{
+    is_listed(journal, offset)
+}
+
+// Whether one stands at every listed offset.
+fn all_records(journal: &[u8], records: &[usize]) -> bool
+    ensures { λ r. ⌜ r ≡ allAnswered (map (entryAt (now (journal .entry))) (offsetsIn (now (records .entry)))) ⌝ }
+{
+    let count = records.len() / 2;
+    let mut i: usize = 0;
+    while i < count {
+        if !is_record(journal, records[i * 2]) {
+            return false;
+        }
+        i += 1;
+    }
+    true
+}
 
 // The next record, the end of the records, or a refusal.
 pub enum Turn {

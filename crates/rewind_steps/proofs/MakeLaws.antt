@@ -9,29 +9,42 @@ use lib.Seq.{sets}
 use lib.Dec.{ltb}
 use Rattle.walk.specs.Outcome.{Outcome, refused, answered}
 use Rattle.walk.specs.Refusals.{tableFull, textFull}
-use Rattle.entry_table.specs.Names.{lengthsOf, inside, allInside}
-use Rattle.entry_table.specs.Slots.{slotsIn, keyAt, infoAt, putAt, namesIn}
-use Rattle.entry_table.specs.Table.{Table, table, slotFor, Addition}
-use Rattle.entry_table.specs.Storing.{adding, usedAfter, wordsAfter}
-use Rattle.entry_table.specs.declared.EntryKey.{EntryKey}
-use Rattle.entry_table.specs.declared.NamePlace.{NamePlace}
-use Rattle.entry_table.specs.declared.EntryInfo.{EntryInfo}
-use Rattle.entry_table.proofs.AddLaws.{Added, adding-added, added-fits, added-none, added-table, names-added, put-back, slot-full}
-use Rattle.entry_table.proofs.KeptLaws.{add-keeps}
-use Rattle.entry_index.specs.Index.{headsOf, nextsOf, Indexed, headsAfter, nextsAfter}
-use Rattle.entry_index.proofs.SeedLaws.{heads-long, nexts-long, index-again, index-then}
+use Rattle.entry_slots.specs.Names.{lengthsOf, inside, allInside}
+use Rattle.entry_slots.specs.Slots.{slotsIn, keyAt, infoAt, putAt, namesIn}
+use Rattle.entry_slots.specs.Table.{Table, table, slotFor, Addition}
+use Rattle.additions.specs.Storing.{adding, usedAfter, wordsAfter}
+use Rattle.entry_slots.specs.declared.EntryKey.{EntryKey}
+use Rattle.entry_slots.specs.declared.NamePlace.{NamePlace}
+use Rattle.entry_slots.specs.declared.EntryInfo.{EntryInfo}
+use Rattle.additions.proofs.OneLaws.{Added, adding-added, added-fits, added-none, added-table, names-added, put-back, slot-full}
+use Rattle.additions.proofs.KeptLaws.{add-keeps}
+use Rattle.entry_slots.specs.Index.{headsOf, nextsOf, Indexed, headsAfter, nextsAfter}
+use Rattle.entry_table.proofs.SeedLaws.{heads-long, nexts-long, index-again, index-then}
 use Rattle.chain.specs.Settings.{depth}
-use Rattle.path_index.specs.Behind.{entryText, behind, textBehind}
-use Rattle.path_index.specs.declared.Behind.{Behind}
-use Rattle.path_index.specs.declared.Behind.the-variants as put
-use Rattle.rewind_records.specs.Entries.{forward}
+use Rattle.path.specs.Ways.{entryText}
+use Rattle.path.specs.Promise.{WayAsks, Behinds}
+use Rattle.path.specs.declared.ways.Behind.{Behind}
+use Rattle.path.specs.declared.ways.Behind.the-variants as put
+use Rattle.additions.specs.Entries.{forward}
 use Rattle.rewind_steps.specs.Taking.{Step, stepWith}
 use Rattle.rewind_steps.specs.Telling.{recordText, telling}
-use Rattle.rewind_records.specs.declared.entries.RecordEntry.{RecordEntry}
+use Rattle.additions.specs.declared.entries.RecordEntry.{RecordEntry}
 use Rattle.rewind_steps.specs.Making.{making, tableAfter}
 use Rattle.rewind_steps.specs.Promise.{StepAsks, StepLeaves}
 use Rattle.rewind_steps.specs.declared.Made.{Made}
 use Rattle.rewind_steps.specs.declared.Made.the-variants.{To, Refused}
+
+-- what a step asks is enough for its path
+pub tell-asks : {journal image : List ℕ} {t : Table} {heads nexts : List ℕ} {name : NamePlace} {at : ℕ} {text : List ℕ} → StepAsks journal image t heads nexts name at text
+    → WayAsks journal image t heads nexts
+tell-asks asks = record {
+  fits = omega (arith, asks .fits);
+  index = asks .index;
+  wide = λ h. let g = asks .wide h in omega (arith, asks .fits);
+  insides = asks .names;
+  near-journal = asks .near-journal;
+  near-image = asks .near-image;
+}
 
 -- the text of a record that the table has
 module _ (journal image : List ℕ) (u : Table) (parent : EntryKey) (name : NamePlace) (text : List ℕ) (at : ℕ) where
@@ -45,37 +58,42 @@ module _ (journal image : List ℕ) (u : Table) (parent : EntryKey) (name : Name
   unfolding entryText recordText
   same-text = refl
 
-  module _ (m : ℕ) (nexts : List ℕ) (t : Table) {v : Behind} {y : List ℕ} (e : v ≡ behind text at more) (k : y ≡ textBehind text at more) where
+  module _ (m : ℕ) (nexts : List ℕ) (t : Table) {v : Behind} {y : List ℕ} (g : Behinds more text at v y) where
     abbrev Tells : Made → List ℕ → List ℕ → List ℕ → List ℕ → Type 0
     Tells = StepLeaves journal image at m nexts text (telling journal image u parent name (length text - at)) t
 
     pub tell-to : {to : ℕ} {h n : List ℕ} → v ≡ put.To to → h ≡ headsOf m u → n ≡ nextsOf m u nexts → Tells (To to (u .used)) (u .words) h n y
-    tell-to {to} {h} {n} g eh en = go (ltb (length text - at) (length more)) refl (sym e ∙ g) k
+    tell-to {to} {h} {n} f eh en = go (ltb (length text - at) (length more)) refl
       where
-        go : (b : Bool) → ltb (length text - at) (length more) ≡ b → behind text at more ≡ put.To to → y ≡ textBehind text at more → Tells (To to (u .used)) (u .words) h n y
-        go true l f w = let z : _≡_ {A = ℕ} 0 1 = cc in absurd (omega arith)
-        go false l f w =
+        go : (b : Bool) → ltb (length text - at) (length more) ≡ b → Tells (To to (u .used)) (u .words) h n y
+        go true l = let z : put.To to ≡ put.Full = sym f ∙ g .answer ∙ rw l in let z : _≡_ {A = ℕ} 0 1 = cc in absurd (omega arith)
+        go false l =
             let l′ : ltb (length text - at) (length (recordText journal image step)) ≡ false = rw (← same-text) l in
-            let to-is : at + length more ≡ to = cc in
-            let is = rw l at w in
+            let is : put.To to ≡ put.To (at + length more) = sym f ∙ g .answer ∙ rw l in
+            let to-more : to ≡ at + length more = cc in
+            let to-is : to ≡ at + length (recordText journal image step) = to-more ∙ ap (λ (x : List ℕ). at + length x) same-text in
+            let text-is : y ≡ sets text at more = g .written ∙ rw l in
             rw l′
             (record {
-              answer = sym (rw (← same-text) (ap (λ (i : ℕ). To i (u .used)) to-is));
+              answer = ap (λ (i : ℕ). To i (u .used)) to-is;
               forward = refl;
               heads-are = eh;
               nexts-are = en;
-              text-is = is ∙ ap (sets text at) same-text;
+              text-is = text-is ∙ ap (sets text at) same-text;
             })
 
     pub tell-full : {f h n : List ℕ} → v ≡ put.Full → f ≡ t .words → h ≡ headsOf m t → n ≡ nextsOf m t nexts → Tells (Refused textFull) f h n y
-    tell-full {f} {h} {n} g ef eh en = go (ltb (length text - at) (length more)) refl (sym e ∙ g) k
+    tell-full {f} {h} {n} e ef eh en = go (ltb (length text - at) (length more)) refl
       where
-        go : (b : Bool) → ltb (length text - at) (length more) ≡ b → behind text at more ≡ put.Full → y ≡ textBehind text at more → Tells (Refused textFull) f h n y
-        go true l q w =
+        go : (b : Bool) → ltb (length text - at) (length more) ≡ b → Tells (Refused textFull) f h n y
+        go true l =
             let l′ : ltb (length text - at) (length (recordText journal image step)) ≡ true = rw (← same-text) l in
-            let is = rw l at w in
-            rw l′ (record { answer = refl; forward = ef; heads-are = eh; nexts-are = en; text-is = is })
-        go false l q w = let z : _≡_ {A = ℕ} 0 1 = cc in absurd (omega arith)
+            let text-is : y ≡ text = g .written ∙ rw l in
+            rw l′ (record { answer = refl; forward = ef; heads-are = eh; nexts-are = en; text-is = text-is })
+        go false l =
+            let z : put.Full ≡ put.To (at + length more) = sym e ∙ g .answer ∙ rw l in
+            let z : _≡_ {A = ℕ} 0 1 = cc in
+            absurd (omega arith)
 
 -- a step with the record that is next
 module _ (journal image : List ℕ) (t : Table) (e : RecordEntry) (text : List ℕ) (at : ℕ) (heads nexts : List ℕ) where

@@ -4,13 +4,13 @@ use mathlib.Core.List.{List}
 use lib.ListN.{length}
 use lib.Seq.{sets}
 use Rattle.walk.specs.Outcome.{Outcome, refused, answered}
-use Rattle.entry_table.specs.Table.{Table}
+use Rattle.entry_slots.specs.Table.{Table}
 use Rattle.chain.specs.Settings.{depth}
 use Rattle.path.specs.Telling.{withText}
 use Rattle.rewind_records.specs.Turning.{Next, ended, next}
 use Rattle.rewind_steps.specs.Taking.{Step, taken}
 use Rattle.rewind_steps.specs.Telling.{recordText, nextText}
-use Rattle.rewind_records.specs.declared.entries.RecordEntry.{RecordEntry}
+use Rattle.additions.specs.declared.entries.RecordEntry.{RecordEntry}
 use Rattle.rewind_steps.specs.declared.Made.{Made}
 use Rattle.rewind_steps.specs.declared.Made.the-variants.{To, End, Refused}
 

@@ -8,18 +8,18 @@ use lib.ListN.{length}
 use Rattle.walk.specs.Lent.{Lent, before, after}
 use Rattle.walk.specs.Outcome.{Outcome}
 use Rattle.walk.specs.Refusals.{domain}
-use Rattle.entry_table.specs.Names.{lengthsOf, inside, allInside}
-use Rattle.entry_table.specs.Slots.{slotsIn, namesIn, putAt}
-use Rattle.entry_table.specs.Table.{Table, table}
-use Rattle.entry_table.specs.declared.EntryInfo.{EntryInfo}
-use Rattle.entry_table.specs.declared.EntryKey.{EntryKey}
-use Rattle.entry_table.specs.declared.NamePlace.{NamePlace}
-use Rattle.entry_index.specs.Index.{headsOf, nextsOf, Indexed}
+use Rattle.entry_slots.specs.Names.{lengthsOf, inside, allInside}
+use Rattle.entry_slots.specs.Slots.{slotsIn, namesIn, putAt}
+use Rattle.entry_slots.specs.Table.{Table, table}
+use Rattle.entry_slots.specs.declared.EntryInfo.{EntryInfo}
+use Rattle.entry_slots.specs.declared.NamePlace.{NamePlace}
+use Rattle.entry_slots.specs.Index.{headsOf, nextsOf, Indexed}
 use Rattle.rewind_records.specs.Turning.{Next}
 use Rattle.rewind_steps.specs.Taking.{Step}
 use Rattle.rewind_steps.specs.Telling.{telling}
 use Rattle.rewind_steps.specs.Making.{making, madeOf, tableAfter, textAfter}
-use Rattle.rewind_records.specs.declared.entries.RecordEntry.{RecordEntry}
+use Rattle.additions.specs.declared.entries.RecordEntry.{RecordEntry}
+use Rattle.rewind_steps.specs.declared.Held.{Held}
 use Rattle.rewind_steps.specs.declared.Made.{Made}
 
 -- what is known before a step: the table fits its words, the index is its own, with a link for every slot, and all names are inside, the record's too
@@ -48,9 +48,10 @@ module _ (journal image forward heads nexts text : Lent) (at : ℕ) where
       StepLeaves (before journal) (before image) at (length (before heads)) (before nexts) (before text) o t r (after forward) (after heads) (after nexts) (after text)
 
   -- the text of a record that the table has; where there is no room for it, the table is again as it was without the record
-  abbrev pub TellPromise : ℕ → EntryKey → NamePlace → ℕ → EntryKey → EntryInfo → ℕ → Made → Type 0
-  TellPromise used parent name slot key info old =
-      StepPromise (telling (before journal) (before image) (table (before forward) used) parent name (length (before text) - at)) (table (putAt (before forward) slot key info) old)
+  abbrev pub TellPromise : ℕ → EntryInfo → Held → Made → Type 0
+  TellPromise used info held =
+      let o = telling (before journal) (before image) (table (before forward) used) (info .parent) (info .name) (length (before text) - at) in
+      StepPromise o (table (putAt (before forward) (held .slot) (held .key) (held .info)) (held .used))
 
   -- a step with a record
   abbrev pub MakePromise : RecordEntry → ℕ → Made → Type 0

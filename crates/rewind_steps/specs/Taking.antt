@@ -2,15 +2,15 @@
 use Prim.Native.Nat.{ℕ}
 use mathlib.Core.List.{[], _∷_}
 use Rattle.walk.specs.Outcome.{Outcome, answered, mapOutcome}
-use Rattle.entry_table.specs.Table.{Table, table}
-use Rattle.entry_table.specs.Storing.{adding}
-use Rattle.entry_table.specs.declared.EntryKey.{EntryKey}
-use Rattle.entry_table.specs.declared.NamePlace.{NamePlace}
+use Rattle.entry_slots.specs.Table.{Table, table}
+use Rattle.additions.specs.Storing.{adding}
+use Rattle.entry_slots.specs.declared.EntryKey.{EntryKey}
+use Rattle.entry_slots.specs.declared.NamePlace.{NamePlace}
 use Rattle.chain.specs.Settings.{depth}
 use Rattle.chain.specs.Chain.{Chain, chainOf}
-use Rattle.rewind_records.specs.Entries.{forward}
+use Rattle.additions.specs.Entries.{forward}
 use Rattle.rewind_records.specs.Turning.{Next, ended, next}
-use Rattle.rewind_records.specs.declared.entries.RecordEntry.{RecordEntry}
+use Rattle.additions.specs.declared.entries.RecordEntry.{RecordEntry}
 
 -- what becomes of a record: the forward table with it, its parent's chain there, and where its own name lies
 pub record Step : Type 0 where

@@ -5,9 +5,9 @@ use mathlib.Core.List.{List, [], _++_}
 use Rattle.walk.specs.Outcome.{Outcome, answered}
 use Rattle.path.specs.Text.{pathText, stepText}
 use Rattle.path.specs.Telling.{withText}
-use Rattle.entry_table.specs.Table.{Table}
-use Rattle.entry_table.specs.declared.EntryKey.{EntryKey}
-use Rattle.entry_table.specs.declared.NamePlace.{NamePlace}
+use Rattle.entry_slots.specs.Table.{Table}
+use Rattle.entry_slots.specs.declared.EntryKey.{EntryKey}
+use Rattle.entry_slots.specs.declared.NamePlace.{NamePlace}
 use Rattle.chain.specs.Settings.{depth}
 use Rattle.rewind_records.specs.Turning.{Next, ended, next}
 use Rattle.rewind_steps.specs.Taking.{Step, stepWith}

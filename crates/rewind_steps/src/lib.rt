@@ -3,24 +3,24 @@
 // Every function here is proved. They are helpers of our own crates: they ask for tests that have passed and for an index that is
 // the table's, and keep both. Heads of length 0 are no index.
 ghost use Prim.Native.Nat.{_≤_, _<_};
-ghost use Rattle.entry_table.specs.Slots.{slotsIn};
-ghost use Rattle.entry_table.specs.Table.{table};
+ghost use Rattle.entry_slots.specs.Slots.{slotsIn};
+ghost use Rattle.entry_slots.specs.Table.{table};
 ghost use Rattle.rewind_steps.specs.Promise.{StepAsks, TellPromise, MakePromise};
-use entry_index::links::add;
-use entry_index::links::build;
-use entry_index::links::slot_for;
-use entry_table::EntryInfo;
-use entry_table::EntryKey;
-use entry_table::NamePlace;
+use additions::entries::RecordEntry;
+use additions::entries::replaces_forward;
+use entry_slots::EntryInfo;
+use entry_slots::EntryKey;
+use entry_slots::links::build;
+use entry_slots::links::seek;
+use entry_slots::links::slot_of;
+use entry_slots::slots::STRIDE;
+use entry_slots::slots::info_at;
+use entry_slots::slots::key_at;
+use entry_slots::slots::put;
 use entry_table::Stored;
-use entry_table::slots::STRIDE;
-use entry_table::slots::info_at;
-use entry_table::slots::key_at;
-use entry_table::slots::put;
-use path_index::Behind;
-use path_index::put_behind;
-use rewind_records::entries::RecordEntry;
-use rewind_records::entries::replaces_forward;
+use entry_table::adding::add_found;
+use path::ways::Behind;
+use path::ways::put_behind;
 use walk::TABLE_FULL;
 use walk::TEXT_FULL;
 
@@ -29,6 +29,14 @@ pub enum Made {
     To { at: usize, used: usize },
     End,
     Refused(u32),
+}
+
+// What a table held before a record went into it: what stood in the record's slot, and how many slots were used.
+pub(crate) struct Held {
+    slot: usize,
+    key: EntryKey,
+    info: EntryInfo,
+    used: usize,
 }
 
 // The text of a record that the table has, by its parent and its own name. Where there is no room for it, what stood in the
@@ -40,18 +48,14 @@ fn tell(
     used: usize,
     heads: &mut [u64],
     nexts: &mut [u64],
-    parent: EntryKey,
-    name: NamePlace,
-    slot: usize,
-    old_key: EntryKey,
-    old_info: EntryInfo,
-    old_used: usize,
+    info: EntryInfo,
+    held: Held,
     text: &mut [u8],
     at: usize,
 ) -> Made
-    requires { ⌜ StepAsks (now journal) (now image) (table (now forward) used) (now heads) (now nexts) name at (now text) ⌝ }
-    requires { ⌜ (slot < slotsIn (now forward)) × («old_used» ≤ slotsIn (now forward)) ⌝ }
-    ensures { λ r. ⌜ TellPromise journal image forward heads nexts text at used parent name slot «old_key» «old_info» «old_used» r ⌝ }
+    requires { ⌜ StepAsks (now journal) (now image) (table (now forward) used) (now heads) (now nexts) (info .name) at (now text) ⌝ }
+    requires { ⌜ (held .slot < slotsIn (now forward)) × (held .used ≤ slotsIn (now forward)) ⌝ }
+    ensures { λ r. ⌜ TellPromise journal image forward heads nexts text at used info held r ⌝ }
 {
     match put_behind(
         journal,
@@ -60,15 +64,15 @@ fn tell(
         used,
         heads,
         nexts,
-        parent,
-        name,
+        info.parent,
+        info.name,
         text,
         at,
     ) {
         Behind::To(to) => Made::To { at: to, used },
         Behind::Full => {
-            put(forward, slot, old_key, old_info);
-            build(forward, old_used, heads, nexts);
+            put(forward, held.slot, held.key, held.info);
+            build(forward, held.used, heads, nexts);
             Made::Refused(TEXT_FULL)
         }
     }
@@ -89,13 +93,20 @@ pub fn make_step(
     requires { ⌜ StepAsks (now journal) (now image) (table (now forward) used) (now heads) (now nexts) (entry .info .name) at (now text) ⌝ }
     ensures { λ r. ⌜ MakePromise journal image forward heads nexts text at entry used r ⌝ }
 {
-    let slot = slot_for(forward, used, heads, nexts, entry.key);
+    let found = seek(forward, used, heads, nexts, entry.key);
+    let slot = slot_of(found, used);
     if forward.len() / STRIDE <= slot {
         return Made::Refused(TABLE_FULL);
     }
-    let old_key = key_at(forward, slot);
-    let old_info = info_at(forward, slot);
-    match add(
+    let key = key_at(forward, slot);
+    let info = info_at(forward, slot);
+    let held = Held {
+        slot,
+        key,
+        info,
+        used,
+    };
+    match add_found(
         forward,
         used,
         heads,
@@ -103,26 +114,20 @@ pub fn make_step(
         entry.key,
         entry.info,
         replaces_forward(entry),
+        found,
     ) {
         Stored::Refused(n) => Made::Refused(n),
-        Stored::Used(n) => {
-            let info = entry.info;
-            tell(
-                journal,
-                image,
-                forward,
-                n,
-                heads,
-                nexts,
-                info.parent,
-                info.name,
-                slot,
-                old_key,
-                old_info,
-                used,
-                text,
-                at,
-            )
-        }
+        Stored::Used(n) => tell(
+            journal,
+            image,
+            forward,
+            n,
+            heads,
+            nexts,
+            entry.info,
+            held,
+            text,
+            at,
+        ),
     }
 }

@@ -7,15 +7,14 @@ use lib.Seq.{sets}
 use Rattle.usn_answers.specs.Journal.{countWords}
 use Rattle.usn_answers.specs.Promise.{Answers}
 use Rattle.usn_answers.proofs.AnswerLaws.{out-answered}
-use Rattle.mft_carver.specs.Carve.{statsWords}
-use Rattle.mft_carver.specs.Carve.{outcome as carvingOutcome}
+use Rattle.mft_carver.specs.Carve.{statsWords, outcome as carvingOutcome}
 use Rattle.mft_carver.specs.declared.MftCarving.{MftCarving}
 use Rattle.mft_carver.specs.declared.MftCarving.the-variants.{Carved}
 use Rattle.mft_carver.specs.declared.MftCarvingStats.{MftCarvingStats}
-use Rattle.entry_table.specs.Storing.{outcome as storingOutcome}
+use Rattle.entry_table.specs.Promise.{outcome as storingOutcome}
 use Rattle.entry_table.specs.declared.Stored.{Stored}
 use Rattle.entry_table.specs.declared.Stored.the-variants.{Used}
-use Rattle.entry_table.specs.declared.EntryKey.{EntryKey}
+use Rattle.entry_slots.specs.declared.EntryKey.{EntryKey}
 use Rattle.chain.specs.Tracing.{outcome as chainOutcome}
 use Rattle.chain.specs.declared.ChainAnswer.{ChainAnswer}
 use Rattle.chain.specs.declared.ChainAnswer.the-variants.{Resolved}

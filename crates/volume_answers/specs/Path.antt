@@ -1,7 +1,7 @@
 -- Paths as words.
 use Prim.Native.Nat.{ℕ}
 use mathlib.Core.List.{List, [], _∷_}
-use Rattle.entry_table.specs.declared.EntryKey.{EntryKey}
+use Rattle.entry_slots.specs.declared.EntryKey.{EntryKey}
 use Rattle.chain.specs.declared.ChainEnd.{ChainEnd}
 use Rattle.chain.specs.declared.ChainEnd.the-variants.{Root, Unknown, Unresolved}
 use Rattle.chain.specs.declared.ResolvedPath.{ResolvedPath}

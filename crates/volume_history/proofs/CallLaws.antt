@@ -2,21 +2,25 @@
 use Prim.Native.Nat.{ℕ, _≤_, _<_}
 use mathlib.Core.Path.{_≡_, refl}
 use mathlib.Core.List.{List}
+use mathlib.Core.Bool.{Bool, cond}
 use lib.ListN.{length}
 use Rattle.walk.specs.Lists.{listAfter}
 use Rattle.walk.specs.Outcome.{Outcome}
 use Rattle.walk.specs.Refusals.{listFull}
+use Rattle.walk.proofs.ChoiceLaws.{cond-cases}
 use Rattle.usn_answers.specs.Answers.{withRoom}
 use Rattle.usn_answers.specs.Journal.{countWords}
 use Rattle.usn_answers.specs.Promise.{Answers}
 use Rattle.usn_answers.proofs.AnswerLaws.{out-same, out-mapped, room-few, room-enough}
-use Rattle.entry_table.specs.Table.{Table}
-use Rattle.entry_table.specs.Storing.{usedAfter, wordsAfter}
-use Rattle.entry_table.specs.Storing.{outcome as storingOutcome}
+use Rattle.entry_slots.specs.Slots.{slotsIn}
+use Rattle.entry_slots.specs.Table.{Table}
+use Rattle.entry_slots.specs.Index.{enough}
+use Rattle.additions.specs.Storing.{usedAfter, wordsAfter}
+use Rattle.entry_table.specs.Promise.{outcome as storingOutcome, StoresIndexed}
 use Rattle.entry_table.specs.declared.Stored.{Stored}
 use Rattle.chain.specs.Chain.{Chain}
 use Rattle.chain.specs.Tracing.{chainAfter}
-use Rattle.volume_history.specs.Promise.{Stores, Traces, Tells}
+use Rattle.volume_history.specs.Promise.{Stores, Seeds, Traces, Tells}
 
 -- x is the outcome where the list takes the word
 module _ (x : Outcome Table) (s l : List ℕ) where
@@ -26,6 +30,25 @@ module _ (x : Outcome Table) (s l : List ℕ) where
   pub stores-answered : 1 ≤ length l → (y : Stored) → storingOutcome y ≡ usedAfter x → {t m : List ℕ} {r : ℕ} → t ≡ wordsAfter x s
       → Answers countWords (storingOutcome y) l r m → Stores (withRoom 1 (length l) x) s l r t m
   stores-answered h y e g o = let p = out-mapped x (out-same o e) in rw (room-enough x h) (record { answer = p .answer; table = g; row = p .row })
+
+-- a choice between two that are the same
+chosen : {A : Type 0} (b : Bool) (x : A) → x ≡ cond b x x
+chosen b x = cond-cases (λ y. x ≡ y) b (λ _. refl) (λ _. refl)
+
+-- seeding by way of an index, likewise
+module _ (x : Outcome Table) (s h n l : List ℕ) where
+  pub seeds-short : length l < 1 → Seeds (withRoom 1 (length l) x) s h n l listFull s h n l
+  seeds-short q =
+      let e = room-few x q in
+      rw e
+      (record { store = record { answer = refl; table = refl; row = refl }; heads-are = chosen (enough (slotsIn s) h n) h; nexts-are = chosen (enough (slotsIn s) h n) n })
+
+  pub seeds-answered : 1 ≤ length l → {y : Stored} {t h′ n′ m : List ℕ} {r : ℕ} → StoresIndexed x s h n y t h′ n′ → Answers countWords (storingOutcome y) l r m
+      → Seeds (withRoom 1 (length l) x) s h n l r t h′ n′ m
+  seeds-answered q c o =
+      let p = out-mapped x (out-same o (c .store .answer)) in
+      rw (room-enough x q)
+      (record { store = record { answer = p .answer; table = c .store .slots-are; row = p .row }; heads-are = c .heads-are; nexts-are = c .nexts-are })
 
 -- x is the outcome where the list takes the n words
 module _ (words : Chain → List ℕ) (n : ℕ) (x : Outcome Chain) (s l : List ℕ) where

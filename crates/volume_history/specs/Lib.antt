@@ -2,5 +2,4 @@ pub mod Image
 pub mod Names
 pub mod Table
 pub mod Path
-pub mod Rewind
 pub mod Promise

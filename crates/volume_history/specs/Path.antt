@@ -4,10 +4,10 @@ use mathlib.Core.List.{List}
 use lib.ListN.{length}
 use Rattle.walk.specs.Outcome.{Outcome}
 use Rattle.usn_answers.specs.Answers.{withRoom}
-use Rattle.entry_table.specs.Names.{lengthsOf}
-use Rattle.entry_table.specs.Table.{table}
-use Rattle.entry_table.specs.declared.EntryKey.{EntryKey}
-use Rattle.entry_table.specs.declared.NamePlace.{NamePlace}
+use Rattle.entry_slots.specs.Names.{lengthsOf}
+use Rattle.entry_slots.specs.Table.{table}
+use Rattle.entry_slots.specs.declared.EntryKey.{EntryKey}
+use Rattle.entry_slots.specs.declared.NamePlace.{NamePlace}
 use Rattle.chain.specs.Settings.{depth}
 use Rattle.chain.specs.Chain.{Chain}
 use Rattle.chain.specs.Tracing.{tracing}

@@ -11,26 +11,21 @@ use Rattle.usn_answers.specs.Answers.{number}
 use Rattle.usn_answers.specs.Journal.{countWords}
 use Rattle.usn_answers.specs.Promise.{ListPromise}
 use Rattle.mft_carver.specs.Carve.{statsWords}
-use Rattle.entry_table.specs.Table.{Table}
-use Rattle.entry_table.specs.Storing.{wordsAfter}
-use Rattle.entry_table.specs.declared.EntryInfo.{EntryInfo}
-use Rattle.entry_table.specs.declared.EntryKey.{EntryKey}
-use Rattle.entry_table.specs.declared.NamePlace.{NamePlace}
+use Rattle.entry_slots.specs.Slots.{slotsIn}
+use Rattle.entry_slots.specs.Table.{Table}
+use Rattle.entry_slots.specs.Index.{headsLeft, nextsLeft}
+use Rattle.additions.specs.Storing.{wordsAfter}
+use Rattle.entry_slots.specs.declared.EntryInfo.{EntryInfo}
+use Rattle.entry_slots.specs.declared.EntryKey.{EntryKey}
+use Rattle.entry_slots.specs.declared.NamePlace.{NamePlace}
 use Rattle.chain.specs.Chain.{Chain, resolved}
 use Rattle.chain.specs.Tracing.{chainAfter}
 use Rattle.path.specs.Text.{placeText, placeLength, pathText}
 use Rattle.path.specs.Telling.{told}
-use Rattle.rewind.specs.Starting.{Tables, firstAfter, forwardAfter}
-use Rattle.rewind.specs.Stepping as step
-use Rattle.rewind_records.specs.Turning.{Next}
-use Rattle.rewind_steps.specs.Taking.{Step}
-use Rattle.rewind_steps.specs.Telling.{nextText}
-use Rattle.rewind.specs.declared.Rewind.{Rewind}
 use Rattle.volume_answers.specs.Path.{resolvedWords, toldWords}
 use Rattle.volume_history.specs.Image.{carveCall, carvedWords}
 use Rattle.volume_history.specs.Names.{decodeCall, decodedBytes}
 use Rattle.volume_history.specs.Path.{resolveCall, chainCall, placeCall}
-use Rattle.volume_history.specs.Rewind.{startCall, startWords, stepWords, chainStepWords, chainStepCall, pathStepWords, pathStepCall}
 use Rattle.volume_history.specs.Table.{insertCall, seedCall, usedWords}
 
 -- carving an image: the list is that of the entries, and the words are the counters
@@ -61,6 +56,17 @@ abbrev pub SeedCallPromise : Lent → Lent → Lent → ℕ → Lent → Lent �
 SeedCallPromise journal image slots used entries out r =
     Stores (seedCall (before journal) (before image) (before slots) used (before entries) (before out)) (before slots) (before out) r (after slots) (after out)
 
+-- seeding: what the call with no index promises, and the words of the index
+pub record Seeds (o : Outcome Table) (words heads nexts out : List ℕ) (r : ℕ) (words′ heads′ nexts′ out′ : List ℕ) : Type 0 where
+  pub store : Stores o words out r words′ out′
+  pub heads-are : heads′ ≡ headsLeft (slotsIn words) o heads nexts
+  pub nexts-are : nexts′ ≡ nextsLeft (slotsIn words) o heads nexts
+
+abbrev pub SeedIndexedCallPromise : Lent → Lent → Lent → ℕ → Lent → Lent → Lent → Lent → ℕ → Type 0
+SeedIndexedCallPromise journal image slots used entries heads nexts out r =
+    let o = seedCall (before journal) (before image) (before slots) used (before entries) (before out) in
+    Seeds o (before slots) (before heads) (before nexts) (before out) r (after slots) (after heads) (after nexts) (after out)
+
 -- a chain: its number, the list of its places, and the words of its answer
 pub record Traces (words : Chain → List ℕ) (o : Outcome Chain) (list out : List ℕ) (r : ℕ) (list′ out′ : List ℕ) : Type 0 where
   pub answer : r ≡ number o
@@ -83,40 +89,3 @@ abbrev pub ResolvePromise : Lent → Lent → Lent → ℕ → EntryKey → Lent
 ResolvePromise journal image slots used key chain text out r =
     let o = resolveCall (before journal) (before image) (before slots) used key (before text) (before out) in
     Tells (pathText (before journal) (before image)) (λ c. toldWords (told (before journal) (before image) c)) o (before chain) (before text) (before out) r (after chain) (after text) (after out)
-
--- a start: its number, the words of both tables, and those of the state
-pub record Starts (o : Outcome Tables) (words forward out : List ℕ) (r : ℕ) (words′ forward′ out′ : List ℕ) : Type 0 where
-  pub answer : r ≡ number o
-  pub first : words′ ≡ firstAfter o words
-  pub second : forward′ ≡ forwardAfter o forward
-  pub row : out′ ≡ listAfter startWords o out
-
-abbrev pub StartCallPromise : Lent → Lent → Lent → Lent → ℕ → Lent → Lent → ℕ → Type 0
-StartCallPromise journal image records slots used forward out r =
-    let o = startCall (before journal) (before image) (before records) (before slots) used (before forward) (before out) in
-    Starts o (before slots) (before forward) (before out) r (after slots) (after forward) (after out)
-
--- a step: its number, the words of the forward table, the list of places, and the words of its answer
-pub record Steps (words : Next Step → List ℕ) (o : Outcome (Next Step)) (forward list out : List ℕ) (r : ℕ) (forward′ list′ out′ : List ℕ) : Type 0 where
-  pub answer : r ≡ number o
-  pub table : forward′ ≡ step.wordsAfter o forward
-  pub places : list′ ≡ step.chainAfter o list
-  pub row : out′ ≡ listAfter words o out
-
-abbrev pub NextChainCallPromise : Lent → Lent → Lent → Rewind → Lent → Lent → Lent → ℕ → Type 0
-NextChainCallPromise journal image records rewind forward chain out r =
-    let o = chainStepCall (before journal) (before image) (before records) rewind (before forward) (before out) in
-    Steps (stepWords chainStepWords rewind) o (before forward) (before chain) (before out) r (after forward) (after chain) (after out)
-
--- with text
-pub record StepsTold (bytes words : Next Step → List ℕ) (o : Outcome (Next Step)) (forward list text out : List ℕ) (r : ℕ) (forward′ list′ text′ out′ : List ℕ) : Type 0 where
-  pub answer : r ≡ number o
-  pub table : forward′ ≡ step.wordsAfter o forward
-  pub places : list′ ≡ step.chainAfter o list
-  pub written : text′ ≡ listAfter bytes o text
-  pub row : out′ ≡ listAfter words o out
-
-abbrev pub NextCallPromise : Lent → Lent → Lent → Rewind → Lent → Lent → Lent → Lent → ℕ → Type 0
-NextCallPromise journal image records rewind forward chain text out r =
-    let o = pathStepCall (before journal) (before image) (before records) rewind (before forward) (before text) (before out) in
-    StepsTold (nextText (before journal) (before image)) (stepWords (pathStepWords (before journal) (before image)) rewind) o (before forward) (before chain) (before text) (before out) r (after forward) (after chain) (after text) (after out)

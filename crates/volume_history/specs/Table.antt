@@ -6,12 +6,12 @@ use lib.ListN.{length}
 use Rattle.walk.specs.Outcome.{Outcome}
 use Rattle.usn_answers.specs.Answers.{withRoom}
 use Rattle.usn_answers.specs.Journal.{countWords}
-use Rattle.entry_table.specs.Names.{lengthsOf}
-use Rattle.entry_table.specs.Table.{Table, table}
-use Rattle.entry_table.specs.Storing.{inserting}
-use Rattle.entry_table.specs.Carved.{seeding}
-use Rattle.entry_table.specs.declared.EntryKey.{EntryKey}
-use Rattle.entry_table.specs.declared.EntryInfo.{EntryInfo}
+use Rattle.entry_slots.specs.Names.{lengthsOf}
+use Rattle.entry_slots.specs.Table.{Table, table}
+use Rattle.additions.specs.Storing.{inserting}
+use Rattle.additions.specs.Carved.{seeding}
+use Rattle.entry_slots.specs.declared.EntryKey.{EntryKey}
+use Rattle.entry_slots.specs.declared.EntryInfo.{EntryInfo}
 
 -- a key, and what is known of it, from their numbers
 abbrev pub keyOf : ℕ → ℕ → EntryKey

@@ -1,28 +1,24 @@
-// Image carving, the lookup table, paths, rewinds and the decoding of names as C functions, for Rust or C to link: a slice is a
-// pointer and a length, and an answer goes out as a number, 0 or a refusal's, with its words in a lent list.
+// Image carving, the lookup table, paths and the decoding of names as C functions, for Rust or C to link: a slice is a pointer and
+// a length, and an answer goes out as a number, 0 or a refusal's, with its words in a lent list.
 //
 //     mft_carve_entries    the MFT entries in an image
 //     utf16_decode         the text of a name
-//     table_insert, table_insert_if_absent, table_seed
+//     table_insert, table_insert_if_absent, table_seed, table_seed_indexed
 //                          the lookup table: an entry under its key, and all carved entries
 //     path_resolve, path_chain
 //                          the path of a key, with its text and without it
 //     path_decode          the text of a stored name
-//     rewind_start, rewind_next, rewind_next_chain
-//                          the path of each record of a journal, with its text and without it
 //
-// Every function here is proved, and none has a `requires`. A refused call writes nothing, and one that answers writes the words
-// of its answer alone: those past them stay as they were.
+// Every function here is proved, and none has a `requires`. A refused call writes nothing. One that answers writes of its list the words
+// of its answer alone: those past them stay as they were. What lies in the words for an index, specs/Promise.antt says.
 ghost use mathlib.Core.Path.{_≡_};
 ghost use mathlib.Core.Bool.{true, false};
 ghost use Rattle.path.specs.Telling.{place};
-ghost use Rattle.volume_history.specs.Promise.{CarveCallPromise, DecodeCallPromise, PlaceCallPromise, StorePromise, SeedCallPromise, ChainCallPromise, ResolvePromise, StartCallPromise, NextChainCallPromise, NextCallPromise};
-ghost use Rattle.volume_history.specs.Rewind.{rewindOf};
+ghost use Rattle.volume_history.specs.Promise.{CarveCallPromise, DecodeCallPromise, PlaceCallPromise, StorePromise, SeedCallPromise, ChainCallPromise, ResolvePromise, SeedIndexedCallPromise};
 ghost use Rattle.volume_history.specs.Table.{keyOf, infoOf};
-use entry_table::EntryInfo;
-use entry_table::EntryKey;
-use entry_table::NamePlace;
-use rewind::Rewind;
+use entry_slots::EntryInfo;
+use entry_slots::EntryKey;
+use entry_slots::NamePlace;
 use volume_answers::answers::STATS_WORDS;
 use volume_answers::answers::TEXT_WORDS;
 use volume_answers::answers::USED_WORDS;
@@ -33,12 +29,6 @@ use volume_answers::paths::CHAIN_WORDS;
 use volume_answers::paths::PATH_WORDS;
 use volume_answers::paths::put_chain;
 use volume_answers::paths::put_path;
-use volume_answers::rewinds::CHAIN_STEP_WORDS;
-use volume_answers::rewinds::PATH_STEP_WORDS;
-use volume_answers::rewinds::START_WORDS;
-use volume_answers::rewinds::put_chain_step;
-use volume_answers::rewinds::put_path_step;
-use volume_answers::rewinds::put_start;
 use walk::LIST_FULL;
 
 // The MFT entries in an image: for each nine words of list, namely its offset, number and sequence, its name's offset and length
@@ -93,7 +83,7 @@ pub extern "C" fn table_insert(
         return LIST_FULL;
     }
     put_used(
-        entry_index::insert(
+        entry_table::insert(
             journal,
             image,
             slots,
@@ -127,7 +117,7 @@ pub extern "C" fn table_insert_if_absent(
         return LIST_FULL;
     }
     put_used(
-        entry_index::insert_if_absent(
+        entry_table::insert_if_absent(
             journal,
             image,
             slots,
@@ -157,7 +147,31 @@ pub extern "C" fn table_seed(
     if out.len() < USED_WORDS {
         return LIST_FULL;
     }
-    put_used(entry_index::seed(journal, image, slots, used, entries), out)
+    put_used(entry_table::seed(journal, image, slots, used, entries), out)
+}
+
+// What table_seed does, by way of an index in the words of heads and nexts, whatever they hold.
+// Answers 0, or refuses as table_seed does.
+#[no_mangle]
+pub extern "C" fn table_seed_indexed(
+    journal: &[u8],
+    image: &[u8],
+    slots: &mut [u64],
+    used: usize,
+    entries: &[u64],
+    heads: &mut [u64],
+    nexts: &mut [u64],
+    out: &mut [u64],
+) -> u32
+    ensures { λ r. ⌜ SeedIndexedCallPromise journal image slots used entries heads nexts out r ⌝ }
+{
+    if out.len() < USED_WORDS {
+        return LIST_FULL;
+    }
+    put_used(
+        entry_table::seed_indexed(journal, image, slots, used, entries, heads, nexts),
+        out,
+    )
 }
 
 // The path of a key, with its text in front of text. The places of its names go to the front of chain, the top one first, three
@@ -249,104 +263,6 @@ pub extern "C" fn path_decode(
     }
     put_length(
         path::decode(journal, image, source, offset, length, text),
-        out,
-    )
-}
-
-// The start of a rewind, over records as a reader lists them, two words each, of which the offset counts: they go into the table
-// of seven words a slot, of which used are used, from the last to the first, an old name of a rename in place of a known entry and
-// any other where its key is new. The used slots are then copied to the front of forward. 2 words of out, the state: the used slots
-// of both tables, and how many records are behind, 0.
-// Answers 0, or refuses: 5 out has fewer than 2 words, 1 journal or image is above the domain, 9 used is above the slots, 12 at a
-// listed offset stands no record, 7 the name's place of a used slot is outside its slice, 6 the slots of either table are too few
-// for the used ones and the different new keys.
-#[no_mangle]
-pub extern "C" fn rewind_start(
-    journal: &[u8],
-    image: &[u8],
-    records: &[usize],
-    slots: &mut [u64],
-    used: usize,
-    forward: &mut [u64],
-    out: &mut [u64],
-) -> u32
-    ensures { λ r. ⌜ StartCallPromise journal image records slots used forward out r ⌝ }
-{
-    if out.len() < START_WORDS {
-        return LIST_FULL;
-    }
-    put_start(
-        rewind::rewind_start(journal, image, records, slots, used, forward),
-        out,
-    )
-}
-
-// The next record of a rewind, whose state is used and position, goes into forward: a new name or a creation in place of a known
-// entry, any other where its key is new. The record's path, its parent's, a backslash and its name, goes to the front of text, and
-// the places of its parent's path to chain, as path_resolve leaves them. 8 words of out: 1, the state after it, namely the used
-// slots and how many records are behind, and the 5 words of path_resolve, of which the first four are those of the parent's path and
-// the last is the bytes of the record's own. Or 3 words where no record is left: 0 and the state.
-// Answers 0, or refuses: 5 out has fewer than 8 words, 1 journal or image is above the domain, 9 used is above the slots, 12 at a
-// listed offset stands no record, 7 the name's place of a used slot is outside its slice, 6 the record's key is new and no slot is
-// left, 8 the text is too small.
-#[no_mangle]
-pub extern "C" fn rewind_next(
-    journal: &[u8],
-    image: &[u8],
-    records: &[usize],
-    used: usize,
-    position: usize,
-    forward: &mut [u64],
-    chain: &mut [u64],
-    text: &mut [u8],
-    out: &mut [u64],
-) -> u32
-    ensures { λ r. ⌜ NextCallPromise journal image records (rewindOf used position) forward chain text out r ⌝ }
-{
-    if out.len() < PATH_STEP_WORDS {
-        return LIST_FULL;
-    }
-    put_path_step(
-        rewind::rewind_next(
-            journal,
-            image,
-            records,
-            Rewind { used, position },
-            forward,
-            chain,
-            text,
-        ),
-        out,
-    )
-}
-
-// The same without its text: 7 words of out, as above but for the text's bytes, or 3 where no record is left.
-// Answers 0, or refuses: 5 out has fewer than 7 words, 1, 9, 12, 7 and 6 as above.
-#[no_mangle]
-pub extern "C" fn rewind_next_chain(
-    journal: &[u8],
-    image: &[u8],
-    records: &[usize],
-    used: usize,
-    position: usize,
-    forward: &mut [u64],
-    chain: &mut [u64],
-    out: &mut [u64],
-) -> u32
-    ensures { λ r. ⌜ NextChainCallPromise journal image records (rewindOf used position) forward chain out r ⌝ }
-{
-    if out.len() < CHAIN_STEP_WORDS {
-        return LIST_FULL;
-    }
-    put_chain_step(
-        rewind::rewind_next_chain(
-            journal,
-            image,
-            records,
-            Rewind { used, position },
-            forward,
-            chain,
-        ),
         out,
     )
 }

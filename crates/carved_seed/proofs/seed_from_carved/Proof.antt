@@ -42,14 +42,15 @@ use Rattle.walk.specs.Outcome.{Outcome}
 use Rattle.mft_carver.specs.declared.CarvedMftEntry.{CarvedMftEntry}
 use Rattle.mft_carver.proofs.CarvedMftEntry as T
 use Rattle.entry_table.specs.declared.Stored.{Stored}
-use Rattle.entry_table.specs.Names.{lengthsOf}
-use Rattle.entry_table.specs.Table.{Table, table}
-use Rattle.entry_table.specs.Storing.{storing, usedAfter, wordsAfter, outcome}
-use Rattle.entry_table.specs.Carved.{additionOf}
+use Rattle.entry_slots.specs.Names.{lengthsOf}
+use Rattle.entry_slots.specs.Table.{Table, table}
+use Rattle.entry_table.specs.Promise.{outcome, Stores}
+use Rattle.additions.specs.Carved.{additionOf}
 use Rattle.entry_table.proofs.Stored as D
 use Rattle.entry_table.proofs.Stored.Laws as D′
 use Rattle.carved_seed.specs.declared.Seeded.{Seeded}
-use Rattle.carved_seed.specs.Turns.{inNumbers, seededOutcome}
+use Rattle.carved_seed.specs.Turns.{seededOutcome}
+use Rattle.carved_seed.specs.Promise.{seededFrom, StoresInNumbers}
 use Rattle.carved_seed.proofs.WayLaws.{numbers-say}
 use Rattle.carved_seed.proofs.Seeded as R
 use Rattle.carved_seed.proofs.Seeded.Laws as R′
@@ -134,10 +135,10 @@ module _ {M : Type 1} (𝓤 : URA M) (H : Heap 𝓤) (A : Atoms 𝓤) (W : Given
 
   -- what is to be answered and left
   abbrev done-by : Outcome Table
-  done-by = storing (lengthsOf (yj .now) (ym .now)) (table (x .now) used) (map additionOf (y .now))
+  done-by = seededFrom (yj .now) (ym .now) (x .now) used (y .now)
 
-  abbrev Said : {A : Type 0} → A → A → List ℕ → Type 0
-  Said r o zs = (r ≡ o) × (zs ≡ wordsAfter done-by (x .now))
+  abbrev Said : Seeded → List ℕ → Type 0
+  Said r zs = StoresInNumbers done-by used (x .now) r zs
 
   typed-r : (r : Seeded) (u : Val) → Is R.the-row r (u ∷ []) → Holds (hasTy R′.mir u) × WT u
   typed-r r u is = LL.lawful R.the-type R′.the-laws 𝓤 H A W .typed r (u ∷ []) is .0
@@ -160,7 +161,7 @@ module _ {M : Type 1} (𝓤 : URA M) (H : Heap 𝓤) (A : Atoms 𝓤) (W : Given
   goes-stored : (r : Seeded) (u : Val) → ent 𝓤 (⋆ 𝓤 H A (‵ (OwnR r u) ∷ [])) (Answered 𝓤 H A mem run .pre (to-stored r u))
   goes-stored r u = qed W (‵ (OwnR r u) ∷ []) ∵ nothing ! $ move ! (1 ∷ 0 ∷ []) $ fjoin ! $ nothing ! $ join ! $ frame ! $ done !
 
-  exits : used < 2 ^ 64 → (r : Stored) (u : Val) (zs : List ℕ) → length zs ≡ length (x .now) → Said (outcome r) (usedAfter done-by) zs
+  exits : used < 2 ^ 64 → (r : Stored) (u : Val) (zs : List ℕ) → length zs ≡ length (x .now) → Stores done-by (x .now) r zs
       → ent 𝓤 (⋆ 𝓤 H A (Tokens ∷ ‵ (finally u64 (x .name) zs) ∷ ‵ (OwnD r u) ∷ ‵ OwnJ ∷ ‵ OwnM ∷ ‵ OwnE ∷ [])) (Post u)
   exits used-fits r u zs l e =
       qed W (Tokens ∷ ‵ (finally u64 (x .name) zs) ∷ ‵ (OwnD r u) ∷ ‵ OwnJ ∷ ‵ OwnM ∷ ‵ OwnE ∷ []) ∵
@@ -182,8 +183,8 @@ module _ {M : Type 1} (𝓤 : URA M) (H : Heap 𝓤) (A : Atoms 𝓤) (W : Given
       -- [what `table_seed_entries` asks; journal; image; entries; _8; …; _0; …]
       calls-at ! (fmOf 𝓤 H (W .laws) 𝓣) (Entries 𝓤 H A mem run) known to (and-then ! (load ! (from ! (stop !)) (look ! 18 refl)) (and-then ! (load ! (from ! (stop !)) (look ! 16 refl)) (and-then ! (load ! (from ! (stop !)) (look ! 4 refl)) (and-then ! (load ! (from ! (stop !)) (look ! 12 refl)) (and-then ! (load ! (from ! (stop !)) (look ! 10 refl)) (no-more !)))))) (λ u.
       use1 W (later (some (λ (r : Seeded). (Tokens ⊛ ‵ (OwnR r u)) ⊛ raw (ensured 𝓤 H A entries.ended (entries.clauses 𝓤 H A mem run) (κ₀, (κ₁, (κ, (κ₃, tt)))) a tt r)))) (id⊢ 𝓤 _) $ await ! tt $ pick ! (λ r.
-      split ! $ move ! (1 ∷ []) $ use1 W (some (λ (ls : Unit {0} × (Unit {0} × (List ℕ × (Unit {0} × (Unit {0} × Unit {0}))))). ‵ (lasts entries.ended (κ₀, (κ₁, (κ, (κ₃, tt)))) a ls) ⊛ raw (fact 𝓤 (Said r (inNumbers used (usedAfter done-by)) (ls .1 .1 .0))))) (id⊢ 𝓤 _) $ pick ! (λ ls.
-      split ! $ move ! (1 ∷ []) $ heard ! (Said r (inNumbers used (usedAfter done-by)) (ls .1 .1 .0)) (λ e. fsplit ! $ drop ! $ fsplit ! $ drop ! $ fsplit ! $ fsplit ! $ move ! (1 ∷ []) $ feqL ! (λ l.
+      split ! $ move ! (1 ∷ []) $ use1 W (some (λ (ls : Unit {0} × (Unit {0} × (List ℕ × (Unit {0} × (Unit {0} × Unit {0}))))). ‵ (lasts entries.ended (κ₀, (κ₁, (κ, (κ₃, tt)))) a ls) ⊛ raw (fact 𝓤 (Said r (ls .1 .1 .0))))) (id⊢ 𝓤 _) $ pick ! (λ ls.
+      split ! $ move ! (1 ∷ []) $ heard ! (Said r (ls .1 .1 .0)) (λ e. fsplit ! $ drop ! $ fsplit ! $ drop ! $ fsplit ! $ fsplit ! $ move ! (1 ∷ []) $ feqL ! (λ l.
       -- [the last list; true; the tokens and the numbers; journal; image; entries; _8; …]
       move ! (2 ∷ []) $ split ! $ move ! (1 ∷ []) $ peeks ! R.the-row (Is R.the-row) (shows 𝓤 H A R.the-row) r (u ∷ []) (λ is. land ! (from ! (stop !)) (init ! 11 refl (typed-r r u is)) $
       use1 W (raw (Answered 𝓤 H A mem run .pre (to-stored r u))) (goes-stored r u) $
@@ -195,7 +196,7 @@ module _ {M : Type 1} (𝓤 : URA M) (H : Heap 𝓤) (A : Atoms 𝓤) (W : Given
       peeks ! D.the-row (Is D.the-row) (shows 𝓤 H A D.the-row) r′ (u′ ∷ []) (λ is′. land ! (from ! (stop !)) (init ! 23 refl (typed-d r′ u′ is′)) $
       returns ! (look ! 23 refl) $ forget ! 7 refl $ forget ! 9 refl $ forget ! 11 refl $ forget ! 13 refl $ forget ! 15 refl $ forget ! 17 refl $ forget ! 19 refl $ forget ! 21 refl $ forget ! 23 refl $
       move ! (23 ∷ 24 ∷ []) $ free1 ! $ move ! (21 ∷ 22 ∷ []) $ free1 ! $ move ! (19 ∷ 20 ∷ []) $ free1 ! $ move ! (17 ∷ 18 ∷ []) $ free1 ! $ move ! (15 ∷ 16 ∷ []) $ free1 ! $ move ! (13 ∷ 14 ∷ []) $ free1 ! $ move ! (11 ∷ 12 ∷ []) $ free1 ! $ move ! (9 ∷ 10 ∷ []) $ free1 ! $ move ! (7 ∷ 8 ∷ []) $ free1 ! $ free0 ! $
-      keep ! (1 ∷ 2 ∷ 0 ∷ 4 ∷ 5 ∷ 6 ∷ []) $ by ! (exits used-fits r′ u′ (ls .1 .1 .0) l (e′ ∙ ap seededOutcome (e .0) ∙ numbers-say (lengthsOf (yj .now) (ym .now)) (table (x .now) used) (map additionOf (y .now)) used, e .1))))))))))))))))))))))
+      keep ! (1 ∷ 2 ∷ 0 ∷ 4 ∷ 5 ∷ 6 ∷ []) $ by ! (exits used-fits r′ u′ (ls .1 .1 .0) l (record { answer = e′ ∙ ap seededOutcome (e .answer) ∙ numbers-say (lengthsOf (yj .now) (ym .now)) (table (x .now) used) (map additionOf (y .now)) used; slots-are = e .slots-are }))))))))))))))))))))))
 
 module _ {M : Type 1} (𝓤 : URA M) (H : Heap 𝓤) (A : Atoms 𝓤) (W : Given 𝓤 H A) (mem : Memory → SProp 𝓤) (run : Routine → Fun 𝓤) (𝓣 : Tables 𝓤 H)
     (known : Triple 𝓤 (𝓣 .C #table-seed-entries) (Entries 𝓤 H A mem run)) (known-stored : Triple 𝓤 (𝓣 .C #stored) (Answered 𝓤 H A mem run)) where

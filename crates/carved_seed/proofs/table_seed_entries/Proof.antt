@@ -52,7 +52,7 @@ use denote.Exit.{yes}
 use Rattle.mft_carver.specs.declared.CarvedMftEntry.{CarvedMftEntry}
 use Rattle.mft_carver.proofs.CarvedMftEntry as T
 use Rattle.mft_carver.proofs.CarvedMftEntry.Laws as T′
-use Rattle.entry_table.specs.Slots.{stride}
+use Rattle.entry_slots.specs.Slots.{stride}
 use Rattle.carved_seed.specs.declared.Seeded.{Seeded}
 use Rattle.carved_seed.specs.declared.turns.Bounds.{Bounds}
 use Rattle.carved_seed.specs.declared.turns.Seeding.{Seeding}

@@ -29,8 +29,8 @@ make-step-requires c κs = let s = c .before .before .before .before .before .be
 enum-known-n-2 : tie.Need-enum-known-n-2
 enum-known-n-2 c = search needs
 
-chain-of-requires : tie.Need-chain-of-requires
-chain-of-requires c κs = let s = c .before .before .before .before .before .before .before .before .before .before .before .before .before .before .before .before .before .before .before .before .before .before .before .before .before .before .before .before .args in made-fits (s .journal .now) (s .image .now) (s .records .now) (s .forward .now) (s .rewind) (c .before .before .before .before .before .before .before .before .before .before .before .before .before .before .before .before .before .before .before .before .next-record .ensures) (c .before .before .before .before .before .before .before .before .before .before .before .before .before .before .before .before .before .before .entry .given .1) (s .list .now) (s .text .now) (c .before .before .before .before .before .before .before .before .before .before .before .before .make-step .ensures) (c .before .before .before .before .n2 .given .1)
+list-chain-requires : tie.Need-list-chain-requires
+list-chain-requires c κs = let s = c .before .before .before .before .before .before .before .before .before .before .before .before .before .before .before .before .before .before .before .before .before .before .before .before .before .before .before .before .args in made-fits (s .journal .now) (s .image .now) (s .records .now) (s .forward .now) (s .rewind) (c .before .before .before .before .before .before .before .before .before .before .before .before .before .before .before .before .before .before .before .before .next-record .ensures) (c .before .before .before .before .before .before .before .before .before .before .before .before .before .before .before .before .before .before .entry .given .1) (s .list .now) (s .text .now) (c .before .before .before .before .before .before .before .before .before .before .before .before .make-step .ensures) (c .before .before .before .before .n2 .given .1)
 
 add-t39 : tie.Need-add-t39
 add-t39 c = let s = c .before .before .before .before .before .before .before .before .before .before .before .before .before .before .before .before .before .before .before .before .before .before .before .before .before .before .before .before .before .before .before .before .args in omega (arith, record-next (s .journal .now) (s .image .now) (s .records .now) (s .forward .now) (s .rewind) (c .before .before .before .before .before .before .before .before .before .before .before .before .before .before .before .before .before .before .before .before .before .before .before .before .next-record .ensures) (c .before .before .before .before .before .before .before .before .before .before .before .before .before .before .before .before .before .before .before .before .before .before .entry .given .1) .near, c .before .before .before .before .before .before .before .before .before .before .before .before .before .before .before .before .before .before .before .before .before .before .before .before .before .before .before .before .before .before .before .before .good)
@@ -63,7 +63,7 @@ same-length-5 : tie.Need-same-length-5
 same-length-5 c = search needs
 
 returns-3 : tie.Need-returns-3
-returns-3 c = let s = c .before .before .before .before .before .before .before .before .before .before .before .before .before .before .before .before .before .before .before .before .before .before .before .before .before .before .before .before .before .before .before .before .args in made-to (s .journal .now) (s .image .now) (s .records .now) (s .forward .now) (s .rewind) (c .before .before .before .before .before .before .before .before .before .before .before .before .before .before .before .before .before .before .before .before .before .before .before .before .next-record .ensures) (c .before .before .before .before .before .before .before .before .before .before .before .before .before .before .before .before .before .before .before .before .before .before .entry .given .1) (s .list .now) (s .text .now) (c .before .before .before .before .before .before .before .before .before .before .before .before .before .before .before .before .make-step .ensures) (c .before .before .before .before .before .before .before .before .n2 .given .1) (c .before .before .before .chain-of .ensures .0) (c .before .before .before .chain-of .ensures .1)
+returns-3 c = let s = c .before .before .before .before .before .before .before .before .before .before .before .before .before .before .before .before .before .before .before .before .before .before .before .before .before .before .before .before .before .before .before .before .args in made-to (s .journal .now) (s .image .now) (s .records .now) (s .forward .now) (s .rewind) (c .before .before .before .before .before .before .before .before .before .before .before .before .before .before .before .before .before .before .before .before .before .before .before .before .next-record .ensures) (c .before .before .before .before .before .before .before .before .before .before .before .before .before .before .before .before .before .before .before .before .before .before .entry .given .1) (s .list .now) (s .text .now) (c .before .before .before .before .before .before .before .before .before .before .before .before .before .before .before .before .make-step .ensures) (c .before .before .before .before .before .before .before .before .n2 .given .1) (c .before .before .before .list-chain .ensures .0) (c .before .before .before .list-chain .ensures .1)
 
 same-length-6 : tie.Need-same-length-6
 same-length-6 c = search needs
@@ -95,7 +95,7 @@ rewind-next-spec =
     slice-aggregate-make-step-2
     make-step-requires
     enum-known-n-2
-    chain-of-requires
+    list-chain-requires
     add-t39
     enum-told-2
     enum-known-n-3

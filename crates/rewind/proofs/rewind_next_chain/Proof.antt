@@ -1,8 +1,8 @@
 -- By the record that is next, and then by whether there is a slot for it.
 use mathlib.Core.Path.{ap, refl}
 use native.Mathlib.Omega.{arith}
-use Rattle.entry_table.specs.Storing.{outcome}
-use Rattle.rewind_records.proofs.EntryLaws.{added-forward}
+use Rattle.entry_table.specs.Promise.{outcome}
+use Rattle.additions.proofs.EntryLaws.{added-forward}
 use Rattle.rewind.proofs.StepLaws.{record-next, chain-refused, chain-ended, chain-full, after-fits, chain-taken}
 use borrow.Author.Needs.{needs}
 use Rattle.rewind.proofs.rewind_next_chain.Statement.{statement}
@@ -32,8 +32,8 @@ enum-known-n-2 c = search needs
 enum-known-used : tie.Need-enum-known-used
 enum-known-used c = search needs
 
-chain-of-requires : tie.Need-chain-of-requires
-chain-of-requires c κs = after-fits (c .before .before .before .before .before .before .before .before .before .before .before .before .before .before .before .before .before .before .before .before .before .args .journal .now) (c .before .before .before .before .before .before .before .before .before .before .before .before .before .before .before .before .before .before .before .before .before .args .image .now) (c .before .before .before .before .before .before .before .before .before .before .before .before .before .before .before .before .before .before .before .before .before .args .records .now) _ _ (c .before .before .before .before .before .before .before .before .before .before .before .before .before .before .next-record .ensures) (c .before .before .before .before .before .before .before .before .before .before .before .before .entry .given .1) (added-forward refl (c .before .before .before .before .before .before .before .before .before .replaces-forward .ensures)) (c .before .before .before .before .before .before .before .before .add .ensures .answer) (c .before .before .before .before .before .before .before .before .add .ensures .slots-are) (ap outcome (c .before .before .before .before .used .given .1))
+list-chain-requires : tie.Need-list-chain-requires
+list-chain-requires c κs = after-fits (c .before .before .before .before .before .before .before .before .before .before .before .before .before .before .before .before .before .before .before .before .before .args .journal .now) (c .before .before .before .before .before .before .before .before .before .before .before .before .before .before .before .before .before .before .before .before .before .args .image .now) (c .before .before .before .before .before .before .before .before .before .before .before .before .before .before .before .before .before .before .before .before .before .args .records .now) _ _ (c .before .before .before .before .before .before .before .before .before .before .before .before .before .before .next-record .ensures) (c .before .before .before .before .before .before .before .before .before .before .before .before .entry .given .1) (added-forward refl (c .before .before .before .before .before .before .before .before .before .replaces-forward .ensures)) (c .before .before .before .before .before .before .before .before .add .ensures .answer) (c .before .before .before .before .before .before .before .before .add .ensures .slots-are) (ap outcome (c .before .before .before .before .used .given .1))
 
 add-t31 : tie.Need-add-t31
 add-t31 c = omega (arith, record-next (c .before .before .before .before .before .before .before .before .before .before .before .before .before .before .before .before .before .before .before .before .before .before .before .before .before .args .journal .now) (c .before .before .before .before .before .before .before .before .before .before .before .before .before .before .before .before .before .before .before .before .before .before .before .before .before .args .image .now) (c .before .before .before .before .before .before .before .before .before .before .before .before .before .before .before .before .before .before .before .before .before .before .before .before .before .args .records .now) _ _ (c .before .before .before .before .before .before .before .before .before .before .before .before .before .before .before .before .before .before .next-record .ensures) (c .before .before .before .before .before .before .before .before .before .before .before .before .before .before .before .before .entry .given .1) .near, c .before .before .before .before .before .before .before .before .before .before .before .before .before .before .before .before .before .before .before .before .before .before .before .before .before .good)
@@ -63,7 +63,7 @@ same-length-5 : tie.Need-same-length-5
 same-length-5 c = search needs
 
 returns-4 : tie.Need-returns-4
-returns-4 c = chain-taken _ _ _ _ _ (c .before .before .before .before .before .before .before .before .before .before .before .before .before .before .before .before .before .before .next-record .ensures) (c .before .before .before .before .before .before .before .before .before .before .before .before .before .before .before .before .entry .given .1) (added-forward refl (c .before .before .before .before .before .before .before .before .before .before .before .before .before .replaces-forward .ensures)) (c .before .before .before .before .before .before .before .before .before .before .before .before .add .ensures .answer) (c .before .before .before .before .before .before .before .before .before .before .before .before .add .ensures .slots-are) (ap outcome (c .before .before .before .before .before .before .before .before .used .given .1)) _ (c .before .before .before .chain-of .ensures .0) (c .before .before .before .chain-of .ensures .1)
+returns-4 c = chain-taken _ _ _ _ _ (c .before .before .before .before .before .before .before .before .before .before .before .before .before .before .before .before .before .before .next-record .ensures) (c .before .before .before .before .before .before .before .before .before .before .before .before .before .before .before .before .entry .given .1) (added-forward refl (c .before .before .before .before .before .before .before .before .before .before .before .before .before .replaces-forward .ensures)) (c .before .before .before .before .before .before .before .before .before .before .before .before .add .ensures .answer) (c .before .before .before .before .before .before .before .before .before .before .before .before .add .ensures .slots-are) (ap outcome (c .before .before .before .before .before .before .before .before .used .given .1)) _ (c .before .before .before .list-chain .ensures .0) (c .before .before .before .list-chain .ensures .1)
 
 pub rewind-next-chain-spec : {M : Type 1} → statement M
 rewind-next-chain-spec =
@@ -77,7 +77,7 @@ rewind-next-chain-spec =
     add-requires
     enum-known-n-2
     enum-known-used
-    chain-of-requires
+    list-chain-requires
     add-t31
     same-length
     returns

@@ -21,7 +21,7 @@ same-length-2 : tie.Need-same-length-2
 same-length-2 c = search needs
 
 returns-2 : tie.Need-returns-2
-returns-2 c = traces-answered _ _ _ _ _ (c .before .before .before .before .before .before .before .before .if1 .left) (c .before .before .before .before .before .before .path-chain .ensures .1) (out-mapped _ (out-same (c .before .before .put-chain .ensures) (c .before .before .before .before .before .before .path-chain .ensures .0)))
+returns-2 c = traces-answered _ _ _ _ _ (c .before .before .before .before .before .before .before .before .if1 .left) (c .before .before .before .before .before .before .path-chain .ensures .places) (out-mapped _ (out-same (c .before .before .put-chain .ensures) (c .before .before .before .before .before .before .path-chain .ensures .answer)))
 
 pub path-chain-spec : {M : Type 1} → statement M
 path-chain-spec =

@@ -1,6 +1,6 @@
 -- By what the addition answers.
 use mathlib.Core.Path.{ap}
-use Rattle.entry_table.specs.Storing.{outcome}
+use Rattle.entry_table.specs.Promise.{outcome}
 use Rattle.carved_seed.proofs.WayLaws.{inserts}
 use borrow.Author.Needs.{needs}
 use Rattle.carved_seed.proofs.turns.insert.Statement.{statement}

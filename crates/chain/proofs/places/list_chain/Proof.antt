@@ -1,20 +1,22 @@
--- By whether the list has room.
+-- With no name below it.
+use Rattle.chain.proofs.PlaceLaws.{listed-all}
 use borrow.Author.Needs.{needs}
-use Rattle.chain.proofs.PlaceLaws.{list-room, list-written, list-kept}
 use Rattle.chain.proofs.places.list_chain.Statement.{statement}
 use Rattle.chain.proofs.places.list_chain.Tie as tie
 
+add-put-chain : tie.Need-add-put-chain
+add-put-chain c = search needs
+
 put-chain-requires : tie.Need-put-chain-requires
-put-chain-requires c κs = (c .before .before .before .before .pre .0, list-room (c .before .before .before .before .args .list .now) _ _ _ (c .before .before .before .before .pre .1) (c .before .if1 .taken))
+put-chain-requires c κs = search needs
 
 same-length : tie.Need-same-length
 same-length c = search needs
 
 returns : tie.Need-returns
-returns c = list-written _ _ _ _ (c .before .before .before .before .before .before .before .pre .1) (c .before .before .before .before .if1 .taken) (c .before .before .put-chain .ensures .1)
-
-returns-2 : tie.Need-returns-2
-returns-2 c = list-kept _ _ _ _ (c .before .before .before .pre .1) (c .if1 .left)
+returns c = (c .before .before .put-chain .ensures .0, listed-all _ _ (c .before .before .put-chain .ensures .1))
 
 pub list-chain-spec : {M : Type 1} → statement M
-list-chain-spec = tie.close (tie.spec put-chain-requires same-length returns returns-2)
+list-chain-spec =
+    tie.close
+    (tie.spec add-put-chain put-chain-requires same-length returns)

@@ -1,7 +1,7 @@
 -- A hash is below the number of heads.
 use native.Mathlib.Omega.{arith}
 use lib.ListN.{length}
-use Rattle.entry_index.proofs.IndexLaws.{hash-below}
+use Rattle.entry_slots.proofs.IndexLaws.{hash-below}
 use borrow.Author.Needs.{needs}
 use Rattle.read_ahead.proofs.batch.link_of.Statement.{statement}
 use Rattle.read_ahead.proofs.batch.link_of.Tie as tie

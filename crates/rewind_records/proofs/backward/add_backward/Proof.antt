@@ -2,13 +2,13 @@
 use Prim.Native.Nat.{_-_}
 use mathlib.Core.Path.{refl, ap}
 use native.Mathlib.Omega.{arith}
-use Rattle.entry_table.specs.Table.{table}
-use Rattle.entry_table.specs.Storing.{outcome}
-use Rattle.entry_table.proofs.AdditionLaws.{rows-start, rows-refused, rows-added-all}
-use Rattle.entry_index.proofs.AddLaws.{stores-by}
-use Rattle.entry_index.proofs.SeedLaws.{Keeping, keeping-heads, keeping-nexts, keeping-index, keeping-next}
-use Rattle.rewind_records.specs.Walking.{lastAdded}
-use Rattle.rewind_records.proofs.EntryLaws.{added-backward}
+use Rattle.entry_slots.specs.Table.{table}
+use Rattle.entry_table.specs.Promise.{outcome}
+use Rattle.additions.proofs.AdditionLaws.{rows-start, rows-refused, rows-added-all}
+use Rattle.entry_table.proofs.AddingLaws.{stores-by}
+use Rattle.entry_table.proofs.SeedLaws.{Keeping, keeping-heads, keeping-nexts, keeping-index, keeping-next}
+use Rattle.additions.specs.Walking.{lastAdded}
+use Rattle.additions.proofs.EntryLaws.{added-backward}
 use borrow.Author.Needs.{needs}
 use Rattle.rewind_records.proofs.backward.add_backward.Statement.{statement}
 use Rattle.rewind_records.proofs.backward.add_backward.Tie as tie
@@ -33,8 +33,8 @@ entry-from-last-requires c κs = omega arith
 replaces-backward-requires : tie.Need-replaces-backward-requires Inv-loop μ-loop
 replaces-backward-requires c κs = tt
 
-add-requires : tie.Need-add-requires Inv-loop μ-loop
-add-requires c κs = (omega (arith, c .before .before .before .before .before .before .before .before .before .before .loop .inv .made .rest .room), keeping-index (c .before .before .before .before .before .before .before .before .before .before .loop .inv) (c .before .before .before .before .before .before .before .before .before .before .before .before .before .before .before .before .pre .1 .1))
+add-by-requires : tie.Need-add-by-requires Inv-loop μ-loop
+add-by-requires c κs = (omega (arith, c .before .before .before .before .before .before .before .before .before .before .loop .inv .made .rest .room), keeping-index (c .before .before .before .before .before .before .before .before .before .before .loop .inv) (c .before .before .before .before .before .before .before .before .before .before .before .before .before .before .before .before .pre .1 .1))
 
 enum-known-n : tie.Need-enum-known-n Inv-loop μ-loop
 enum-known-n c = search needs
@@ -43,16 +43,16 @@ enum-known-n-2 : tie.Need-enum-known-n-2 Inv-loop μ-loop
 enum-known-n-2 c = search needs
 
 same-length : tie.Need-same-length Inv-loop μ-loop
-same-length c = absurd (rows-refused (c .before .before .before .before .before .before .before .before .before .before .before .before .before .before .before .before .before .before .before .before .loop .inv .made) (c .before .before .before .before .before .before .before .before .before .before .before .before .before .before .before .before .before .before .before .loop-test .taken) (added-backward (c .before .before .before .before .before .before .before .before .before .before .before .before .before .before .entry-from-last .ensures) (c .before .before .before .before .before .before .before .before .before .before .replaces-backward .ensures)) (c .before .before .before .before .before .before .before .before .before .add .ensures .store .answer) (ap outcome (c .before .n2 .given .1)))
+same-length c = absurd (rows-refused (c .before .before .before .before .before .before .before .before .before .before .before .before .before .before .before .before .before .before .before .before .loop .inv .made) (c .before .before .before .before .before .before .before .before .before .before .before .before .before .before .before .before .before .before .before .loop-test .taken) (added-backward (c .before .before .before .before .before .before .before .before .before .before .before .before .before .before .entry-from-last .ensures) (c .before .before .before .before .before .before .before .before .before .before .replaces-backward .ensures)) (c .before .before .before .before .before .before .before .before .before .add-by .ensures .store .answer) (ap outcome (c .before .n2 .given .1)))
 
 same-length-2 : tie.Need-same-length-2 Inv-loop μ-loop
-same-length-2 c = absurd (rows-refused (c .before .before .before .before .before .before .before .before .before .before .before .before .before .before .before .before .before .before .before .before .loop .inv .made) (c .before .before .before .before .before .before .before .before .before .before .before .before .before .before .before .before .before .before .before .loop-test .taken) (added-backward (c .before .before .before .before .before .before .before .before .before .before .before .before .before .before .entry-from-last .ensures) (c .before .before .before .before .before .before .before .before .before .before .replaces-backward .ensures)) (c .before .before .before .before .before .before .before .before .before .add .ensures .store .answer) (ap outcome (c .before .n2 .given .1)))
+same-length-2 c = absurd (rows-refused (c .before .before .before .before .before .before .before .before .before .before .before .before .before .before .before .before .before .before .before .before .loop .inv .made) (c .before .before .before .before .before .before .before .before .before .before .before .before .before .before .before .before .before .before .before .loop-test .taken) (added-backward (c .before .before .before .before .before .before .before .before .before .before .before .before .before .before .entry-from-last .ensures) (c .before .before .before .before .before .before .before .before .before .before .replaces-backward .ensures)) (c .before .before .before .before .before .before .before .before .before .add-by .ensures .store .answer) (ap outcome (c .before .n2 .given .1)))
 
 same-length-3 : tie.Need-same-length-3 Inv-loop μ-loop
-same-length-3 c = absurd (rows-refused (c .before .before .before .before .before .before .before .before .before .before .before .before .before .before .before .before .before .before .before .before .loop .inv .made) (c .before .before .before .before .before .before .before .before .before .before .before .before .before .before .before .before .before .before .before .loop-test .taken) (added-backward (c .before .before .before .before .before .before .before .before .before .before .before .before .before .before .entry-from-last .ensures) (c .before .before .before .before .before .before .before .before .before .before .replaces-backward .ensures)) (c .before .before .before .before .before .before .before .before .before .add .ensures .store .answer) (ap outcome (c .before .n2 .given .1)))
+same-length-3 c = absurd (rows-refused (c .before .before .before .before .before .before .before .before .before .before .before .before .before .before .before .before .before .before .before .before .loop .inv .made) (c .before .before .before .before .before .before .before .before .before .before .before .before .before .before .before .before .before .before .before .loop-test .taken) (added-backward (c .before .before .before .before .before .before .before .before .before .before .before .before .before .before .entry-from-last .ensures) (c .before .before .before .before .before .before .before .before .before .before .replaces-backward .ensures)) (c .before .before .before .before .before .before .before .before .before .add-by .ensures .store .answer) (ap outcome (c .before .n2 .given .1)))
 
 returns : tie.Need-returns Inv-loop μ-loop
-returns c = absurd (rows-refused (c .before .before .before .before .before .before .before .before .before .before .before .before .before .before .before .before .before .before .before .before .loop .inv .made) (c .before .before .before .before .before .before .before .before .before .before .before .before .before .before .before .before .before .before .before .loop-test .taken) (added-backward (c .before .before .before .before .before .before .before .before .before .before .before .before .before .before .entry-from-last .ensures) (c .before .before .before .before .before .before .before .before .before .before .replaces-backward .ensures)) (c .before .before .before .before .before .before .before .before .before .add .ensures .store .answer) (ap outcome (c .before .n2 .given .1)))
+returns c = absurd (rows-refused (c .before .before .before .before .before .before .before .before .before .before .before .before .before .before .before .before .before .before .before .before .loop .inv .made) (c .before .before .before .before .before .before .before .before .before .before .before .before .before .before .before .before .before .before .before .loop-test .taken) (added-backward (c .before .before .before .before .before .before .before .before .before .before .before .before .before .before .entry-from-last .ensures) (c .before .before .before .before .before .before .before .before .before .before .replaces-backward .ensures)) (c .before .before .before .before .before .before .before .before .before .add-by .ensures .store .answer) (ap outcome (c .before .n2 .given .1)))
 
 add-i : tie.Need-add-i Inv-loop μ-loop
 add-i c = omega (arith, c .before .before .before .before .before .before .before .before .before .before .before .before .before .before .before .before .before .before .before .before .before .before .before .before .before .before .good)
@@ -61,7 +61,7 @@ loop-less : tie.Need-loop-less Inv-loop μ-loop
 loop-less c = omega arith
 
 loop-again : tie.Need-loop-again Inv-loop μ-loop
-loop-again c = keeping-next (c .before .before .before .before .before .before .before .before .before .before .before .before .before .before .before .before .before .before .before .before .loop .inv) (c .before .before .before .before .before .before .before .before .before .before .before .before .before .before .before .before .before .before .before .loop-test .taken) (added-backward (c .before .before .before .before .before .before .before .before .before .before .before .before .before .before .entry-from-last .ensures) (c .before .before .before .before .before .before .before .before .before .before .replaces-backward .ensures)) (c .before .before .before .before .before .before .before .before .before .add .ensures) (ap outcome (c .before .n .given .1))
+loop-again c = keeping-next (c .before .before .before .before .before .before .before .before .before .before .before .before .before .before .before .before .before .before .before .before .loop .inv) (c .before .before .before .before .before .before .before .before .before .before .before .before .before .before .before .before .before .before .before .loop-test .taken) (added-backward (c .before .before .before .before .before .before .before .before .before .before .before .before .before .before .entry-from-last .ensures) (c .before .before .before .before .before .before .before .before .before .before .replaces-backward .ensures)) (c .before .before .before .before .before .before .before .before .before .add-by .ensures) (ap outcome (c .before .n .given .1))
 
 same-length-4 : tie.Need-same-length-4 Inv-loop μ-loop
 same-length-4 c = c .before .loop .inv .made .rest .same
@@ -85,7 +85,7 @@ add-backward-spec =
     behind-requires
     entry-from-last-requires
     replaces-backward-requires
-    add-requires
+    add-by-requires
     enum-known-n
     enum-known-n-2
     same-length

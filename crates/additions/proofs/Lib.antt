@@ -1,0 +1,10 @@
+pub mod StoringLaws
+pub mod OneLaws
+pub mod CountLaws
+pub mod AdditionLaws
+pub mod KeptLaws
+pub mod CallLaws
+pub mod CarverLaws
+pub mod EntryLaws
+pub mod SourceLaws
+pub mod Examples

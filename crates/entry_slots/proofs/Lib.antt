@@ -1,0 +1,10 @@
+pub mod TestLaws
+pub mod RowLaws
+pub mod NameLaws
+pub mod FindLaws
+pub mod PutLaws
+pub mod TableLaws
+pub mod IndexLaws
+pub mod ProbeLaws
+pub mod BuildLaws
+pub mod KeepLaws

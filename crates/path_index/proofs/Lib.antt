@@ -1,3 +1,0 @@
-pub mod BoundLaws
-pub mod WayLaws
-pub mod BehindLaws

@@ -1,0 +1,47 @@
+-- A run as calls of a step with text, one after the other, each on what the last one left: what it is compared with.
+use Prim.Native.Nat.{ℕ, zero, suc, _-_}
+use mathlib.Core.List.{List, [], _∷_}
+use lib.ListN.{length}
+use Rattle.walk.specs.Outcome.{Outcome, refused, answered}
+use Rattle.rewind_records.specs.Turning.{Next, ended, next}
+use Rattle.rewind_steps.specs.Taking.{Step}
+use Rattle.rewind.specs.Stepping.{wordsAfter, rewindAfter}
+use Rattle.rewind.specs.Telling.{told}
+use Rattle.rewind.specs.declared.Rewind.{Rewind}
+use Rattle.rewind_run.specs.Running.{Run, oneMore, onward}
+
+-- the rooms of the calls after one, by what it comes to: none where it is refused or no record is left
+abbrev pub roomsOn : (Run → List ℕ) → List ℕ → List ℕ → Run → Outcome (Next Step) → List ℕ
+roomsOn more journal image r (refused n) = []
+roomsOn more journal image r (answered ended) = []
+roomsOn more journal image r (answered (next x)) = more (oneMore journal image r x)
+
+-- the room that each call of a run has for its text: what is left behind the texts so far
+unfoldable pub rooms : List ℕ → List ℕ → List ℕ → ℕ → ℕ → Run → List ℕ
+rooms journal image records room zero r = []
+rooms journal image records room (suc n) r =
+    let left = room - length (r .text) in
+    left ∷ roomsOn (rooms journal image records room n) journal image r (told journal image records (r .words) (r .rewind) left)
+
+-- what calls with these rooms come to
+unfoldable pub calls : List ℕ → List ℕ → List ℕ → List ℕ → List ℕ → Rewind → List (Outcome (Next Step))
+calls journal image records [] words r = []
+calls journal image records (room ∷ more) words r =
+    let o = told journal image records words r room in
+    o ∷ calls journal image records more (wordsAfter o words) (rewindAfter o r)
+
+-- the words of the forward table and the state of the rewind after them
+pub record Left : Type 0 where
+  pub words : List ℕ
+  pub rewind : Rewind
+
+unfoldable pub callsLeave : List ℕ → List ℕ → List ℕ → List ℕ → List ℕ → Rewind → Left
+callsLeave journal image records [] words r = record { words = words; rewind = r }
+callsLeave journal image records (room ∷ more) words r =
+    let o = told journal image records words r room in
+    callsLeave journal image records more (wordsAfter o words) (rewindAfter o r)
+
+-- a run by what its calls come to
+abbrev pub gathered : List ℕ → List ℕ → Run → List (Outcome (Next Step)) → Run
+gathered journal image r [] = r
+gathered journal image r (o ∷ os) = gathered journal image (onward (λ q. q) journal image r o) os

@@ -1,0 +1,64 @@
+-- What the call promises, and what a run of steps, and each step of it, asks and promises, of what the lent slices hold before, and, with ′, after.
+use Prim.Native.Nat.{ℕ, _-_, _<_, _≤_}
+use mathlib.Core.Path.{_≡_}
+use mathlib.Core.List.{List}
+use lib.ListN.{length}
+use Rattle.walk.specs.Lent.{Lent, before, after}
+use Rattle.walk.specs.Lists.{overwrite}
+use Rattle.entry_slots.specs.Slots.{slotsIn}
+use Rattle.entry_slots.specs.Table.{table}
+use Rattle.entry_slots.specs.Index.{headsOf, nextsOf, Indexed}
+use Rattle.rewind_records.specs.Environment.{environmentOf, refusalOf}
+use Rattle.rewind.specs.Stepping.{forwardTable, stateOf}
+use Rattle.rewind.specs.Telling.{told}
+use Rattle.rewind.specs.declared.Rewind.{Rewind}
+use Rattle.rewind_steps.specs.Promise.{StepPromise}
+use Rattle.rewind_run.specs.Running.{Run, ran, runAnswer, runTable}
+use Rattle.rewind_run.specs.declared.RewindRun.{RewindRun}
+use Rattle.rewind_steps.specs.declared.Made.{Made}
+use mathlib.Core.Bool.{Bool}
+use Rattle.rewind_run.specs.Indexing.{indexes, headsRun, nextsRun}
+
+-- what the tests before a run have shown: none refuses, and the index is the forward table's, with a link for every slot
+pub record RunAsks (journal image records words : List ℕ) (rewind : Rewind) (heads nexts : List ℕ) : Type 0 where
+  pub passes : refusalOf (environmentOf journal image records) (forwardTable words rewind) ≡ 0
+  pub index : Indexed (forwardTable words rewind) heads nexts
+  pub wide : 0 < length heads → slotsIn words ≤ length nexts
+
+-- the next step of a run
+abbrev pub RunStepPromise : Lent → Lent → Lent → Lent → Lent → Lent → ℕ → Lent → ℕ → ℕ → Made → Type 0
+RunStepPromise journal image forward heads nexts text at records used position =
+    StepPromise journal image forward heads nexts text at (told (before journal) (before image) (before records) (before forward) (stateOf used position) (length (before text) - at)) (table (before forward) used)
+
+-- many steps: what they come to, and what is left of them where the tests have passed
+module _ (journal image records words : List ℕ) (rewind : Rewind) (heads nexts ends text : List ℕ) where
+  abbrev pub runOut : Run
+  runOut = ran journal image records words rewind (length text) (length ends)
+
+  pub record RunLeaves (r : RewindRun) (words′ heads′ nexts′ ends′ text′ : List ℕ) : Type 0 where
+    pub answer : r ≡ runAnswer runOut
+    pub forward : words′ ≡ runOut .words
+    pub heads-are : heads′ ≡ headsOf (length heads) (runTable runOut)
+    pub nexts-are : nexts′ ≡ nextsOf (length heads) (runTable runOut) nexts
+    pub ends-are : ends′ ≡ overwrite ends (runOut .ends)
+    pub text-is : text′ ≡ overwrite text (runOut .text)
+
+  -- of the call: whether an index is built for the steps, and what is left by both
+  abbrev pub built : Bool
+  built = indexes journal image records words rewind (length ends) heads nexts
+
+  pub record RunsIndexed (r : RewindRun) (words′ heads′ nexts′ ends′ text′ : List ℕ) : Type 0 where
+    pub answer : r ≡ runAnswer runOut
+    pub forward : words′ ≡ runOut .words
+    pub heads-are : heads′ ≡ headsRun built runOut heads
+    pub nexts-are : nexts′ ≡ nextsRun built runOut heads nexts
+    pub ends-are : ends′ ≡ overwrite ends (runOut .ends)
+    pub text-is : text′ ≡ overwrite text (runOut .text)
+
+abbrev pub StepsPromise : Lent → Lent → Lent → Rewind → Lent → Lent → Lent → Lent → Lent → RewindRun → Type 0
+StepsPromise journal image records rewind forward heads nexts ends text r =
+    RunLeaves (before journal) (before image) (before records) (before forward) rewind (before heads) (before nexts) (before ends) (before text) r (after forward) (after heads) (after nexts) (after ends) (after text)
+
+abbrev pub RunPromise : Lent → Lent → Lent → Rewind → Lent → Lent → Lent → Lent → Lent → RewindRun → Type 0
+RunPromise journal image records rewind forward heads nexts ends text r =
+    RunsIndexed (before journal) (before image) (before records) (before forward) rewind (before heads) (before nexts) (before ends) (before text) r (after forward) (after heads) (after nexts) (after ends) (after text)

@@ -1,0 +1,111 @@
+// The steps of a run: each puts the next record into the forward table and its path behind those of the steps before it.
+//
+// The functions here ask for tests that have passed and for an index that is the table's, and keep both. Heads of length 0 are no
+// index.
+ghost use Prim.Native.Nat.{_≤_};
+ghost use lib.ListN.{length};
+ghost use Rattle.rewind.specs.Stepping.{stateOf};
+ghost use Rattle.rewind_run.specs.Promise.{RunStepPromise, RunAsks, StepsPromise};
+use crate::RewindRun;
+use additions::entries::entry_at;
+use read_ahead::ahead_of;
+use rewind::Rewind;
+use rewind_steps::Made;
+use rewind_steps::make_step;
+
+// The next step, where the tests have passed.
+fn run_step(
+    journal: &[u8],
+    image: &[u8],
+    records: &[usize],
+    used: usize,
+    position: usize,
+    forward: &mut [u64],
+    heads: &mut [u64],
+    nexts: &mut [u64],
+    text: &mut [u8],
+    at: usize,
+) -> Made
+    requires { ⌜ RunAsks (now journal) (now image) (now records) (now forward) (stateOf used position) (now heads) (now nexts) ⌝ }
+    requires { ⌜ at ≤ length (now text) ⌝ }
+    ensures { λ r. ⌜ RunStepPromise journal image forward heads nexts text at records used position r ⌝ }
+{
+    if records.len() / 2 <= position {
+        return Made::End;
+    }
+    let entry = entry_at(journal, records[position * 2]);
+    make_step(journal, image, entry, used, forward, heads, nexts, text, at)
+}
+
+// As many steps as there are words for the ends of their texts, where the tests have passed.
+pub(crate) fn run(
+    journal: &[u8],
+    image: &[u8],
+    records: &[usize],
+    rewind: Rewind,
+    forward: &mut [u64],
+    heads: &mut [u64],
+    nexts: &mut [u64],
+    ends: &mut [u64],
+    text: &mut [u8],
+) -> RewindRun
+    requires { ⌜ RunAsks (now journal) (now image) (now records) (now forward) rewind (now heads) (now nexts) ⌝ }
+    ensures { λ r. ⌜ StepsPromise journal image records rewind forward heads nexts ends text r ⌝ }
+{
+    let mut used = rewind.used;
+    let mut position = rewind.position;
+    let mut at: usize = 0;
+    let mut i: usize = 0;
+    let mut read: usize = 0;
+    while i < ends.len() {
+        read = ahead_of(
+            journal,
+            image,
+            records,
+            position,
+            read,
+            forward,
+            heads,
+            nexts,
+        );
+        match run_step(
+            journal,
+            image,
+            records,
+            used,
+            position,
+            forward,
+            heads,
+            nexts,
+            text,
+            at,
+        ) {
+            Made::To { at: to, used: n } => {
+                ends[i] = to as u64;
+                at = to;
+                used = n;
+                position += 1;
+                i += 1;
+            }
+            Made::End => {
+                return RewindRun {
+                    steps: i,
+                    refusal: 0,
+                    rewind: Rewind { used, position },
+                };
+            }
+            Made::Refused(n) => {
+                return RewindRun {
+                    steps: i,
+                    refusal: n,
+                    rewind: Rewind { used, position },
+                };
+            }
+        }
+    }
+    RewindRun {
+        steps: i,
+        refusal: 0,
+        rewind: Rewind { used, position },
+    }
+}

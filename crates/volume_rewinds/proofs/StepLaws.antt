@@ -1,0 +1,53 @@
+-- What a start and a step have to show as C calls, and that they show it. Assumes nothing.
+use Prim.Native.Nat.{ℕ, _≤_, _<_}
+use mathlib.Core.Path.{_≡_, refl}
+use mathlib.Core.List.{List}
+use lib.ListN.{length}
+use Rattle.walk.specs.Lists.{listAfter}
+use Rattle.walk.specs.Outcome.{Outcome, refused, answered, mapOutcome}
+use Rattle.walk.specs.Refusals.{listFull}
+use Rattle.usn_answers.specs.Answers.{withRoom}
+use Rattle.usn_answers.specs.Promise.{Answers}
+use Rattle.usn_answers.proofs.AnswerLaws.{room-few, room-enough}
+use Rattle.rewind.specs.Starting.{Tables, firstAfter, forwardAfter}
+use Rattle.rewind_records.specs.Turning.{Next, ended, next, mapNext}
+use Rattle.rewind_steps.specs.Taking.{Step}
+use Rattle.rewind.specs.Stepping.{rewindAfter, wordsAfter, chainAfter}
+use Rattle.rewind.specs.declared.Rewind.{Rewind}
+use Rattle.volume_answers.specs.Rewind.{nextWords}
+use Rattle.volume_rewinds.specs.Promise.{Starts, Steps, StepsTold}
+use Rattle.volume_rewinds.specs.Rewind.{startWords, stepWords}
+
+-- x is the outcome where the list takes the words
+module _ (x : Outcome Tables) (s f l : List ℕ) where
+  pub starts-short : length l < 2 → Starts (withRoom 2 (length l) x) s f l listFull s f l
+  starts-short h = let e = room-few x h in rw e (record { answer = refl; first = refl; second = refl; row = refl })
+
+  pub starts-answered : 2 ≤ length l → {t g m : List ℕ} {r : ℕ} → t ≡ firstAfter x s → g ≡ forwardAfter x f → Answers startWords x l r m
+      → Starts (withRoom 2 (length l) x) s f l r t g m
+  starts-answered h e i o = rw (room-enough x h) (record { answer = o .answer; first = e; second = i; row = o .row })
+
+-- a step's answer y and its state v are what the outcome x says
+pub step-out : {A : Type 0} {words : A → List ℕ} {made : Step → A} (w : Rewind) (x : Outcome (Next Step)) {y : Outcome (Next A)} {v : Rewind}
+    → y ≡ mapOutcome (mapNext made) x → v ≡ rewindAfter x w → {l m : List ℕ} {r : ℕ} → Answers (nextWords words v) y l r m
+    → Answers (stepWords (λ s. words (made s)) w) x l r m
+step-out w (refused n) e f o = let p = rw (e, f) at o in record { answer = p .answer; row = p .row }
+step-out w (answered ended) e f o = let p = rw (e, f) at o in record { answer = p .answer; row = p .row }
+step-out w (answered (next s)) e f o = let p = rw (e, f) at o in record { answer = p .answer; row = p .row }
+
+-- x is the outcome where the list takes the n words
+module _ (words : Next Step → List ℕ) (n : ℕ) (x : Outcome (Next Step)) (s c l : List ℕ) where
+  pub steps-short : length l < n → Steps words (withRoom n (length l) x) s c l listFull s c l
+  steps-short h = let e = room-few x h in rw e (record { answer = refl; table = refl; places = refl; row = refl })
+
+  pub steps-answered : n ≤ length l → {t d m : List ℕ} {r : ℕ} → t ≡ wordsAfter x s → d ≡ chainAfter x c → Answers words x l r m
+      → Steps words (withRoom n (length l) x) s c l r t d m
+  steps-answered h e f o = rw (room-enough x h) (record { answer = o .answer; table = e; places = f; row = o .row })
+
+module _ (text words : Next Step → List ℕ) (n : ℕ) (x : Outcome (Next Step)) (s c a l : List ℕ) where
+  pub steps-told-short : length l < n → StepsTold text words (withRoom n (length l) x) s c a l listFull s c a l
+  steps-told-short h = let e = room-few x h in rw e (record { answer = refl; table = refl; places = refl; written = refl; row = refl })
+
+  pub steps-told-answered : n ≤ length l → {t d b m : List ℕ} {r : ℕ} → t ≡ wordsAfter x s → d ≡ chainAfter x c → b ≡ listAfter text x a → Answers words x l r m
+      → StepsTold text words (withRoom n (length l) x) s c a l r t d b m
+  steps-told-answered h e f g o = rw (room-enough x h) (record { answer = o .answer; table = e; places = f; written = g; row = o .row })

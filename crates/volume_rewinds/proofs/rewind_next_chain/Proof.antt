@@ -1,0 +1,38 @@
+-- Too few words are refused first; otherwise the step's equations say what goes out.
+use Rattle.volume_rewinds.proofs.StepLaws.{step-out, steps-short, steps-answered}
+use borrow.Author.Needs.{needs}
+use Rattle.volume_rewinds.proofs.rewind_next_chain.Statement.{statement}
+use Rattle.volume_rewinds.proofs.rewind_next_chain.Tie as tie
+
+returns : tie.Need-returns
+returns c = steps-short _ _ _ _ _ _ (c .if1 .taken)
+
+rewind-next-chain-requires : tie.Need-rewind-next-chain-requires
+rewind-next-chain-requires c κs = search needs
+
+put-chain-step-requires : tie.Need-put-chain-step-requires
+put-chain-step-requires c κs = search needs
+
+same-length : tie.Need-same-length
+same-length c = search needs
+
+same-length-2 : tie.Need-same-length-2
+same-length-2 c = search needs
+
+same-length-3 : tie.Need-same-length-3
+same-length-3 c = search needs
+
+returns-2 : tie.Need-returns-2
+returns-2 c = steps-answered _ _ _ _ _ _ (c .before .before .before .before .before .before .before .before .before .before .before .if1 .left) (c .before .before .before .before .before .before .before .before .rewind-next-chain .ensures .forward) (c .before .before .before .before .before .before .before .before .rewind-next-chain .ensures .places) (step-out _ _ (c .before .before .before .before .before .before .before .before .rewind-next-chain .ensures .answer) (c .before .before .before .before .before .before .before .before .rewind-next-chain .ensures .state) (c .before .before .put-chain-step .ensures))
+
+pub rewind-next-chain-spec : {M : Type 1} → statement M
+rewind-next-chain-spec =
+    tie.close
+    (tie.spec
+    returns
+    rewind-next-chain-requires
+    put-chain-step-requires
+    same-length
+    same-length-2
+    same-length-3
+    returns-2)

@@ -1,0 +1,3 @@
+pub mod Rewind
+pub mod Run
+pub mod Promise

@@ -1,0 +1,22 @@
+-- A run of steps as a C call.
+use Prim.Native.Nat.{ℕ}
+use mathlib.Core.List.{List, [], _∷_}
+use lib.ListN.{length}
+use Rattle.walk.specs.Outcome.{Outcome, answered}
+use Rattle.usn_answers.specs.Answers.{withRoom}
+use Rattle.rewind.specs.declared.Rewind.{Rewind}
+use Rattle.rewind_run.specs.Running.{Run, ran, runAnswer}
+use Rattle.rewind_run.specs.declared.RewindRun.{RewindRun}
+
+-- with lent words for the forward table, for the ends of the texts and for the answer; a run itself is never refused, and its answer tells the refusal of the
+-- step before which it stopped
+abbrev pub runCall : List ℕ → List ℕ → List ℕ → Rewind → List ℕ → List ℕ → List ℕ → List ℕ → Outcome Run
+runCall journal image records r forward ends text out =
+    withRoom 4 (length out) (answered (ran journal image records forward r (length text) (length ends)))
+
+-- its answer as words: the steps that were made, 0 or the refusal, and the state after them
+abbrev pub rowOf : RewindRun → List ℕ
+rowOf x = x .steps ∷ x .refusal ∷ x .rewind .used ∷ x .rewind .position ∷ []
+
+abbrev pub runWords : Run → List ℕ
+runWords x = rowOf (runAnswer x)
