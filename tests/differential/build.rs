@@ -1,4 +1,4 @@
-//! Says where the original's files and our static libraries lie. The original is compiled from where it is, unchanged:
+//! Says where the original's files and our static library lie. The original is compiled from where it is, unchanged:
 //! this writes the module declarations that point to its files, one list for the crate root and one for `usn`.
 
 use std::path::{Path, PathBuf};
@@ -10,8 +10,8 @@ const ROOT: [&str; 4] = ["bytes", "carve", "refs", "rewind"];
 /// The original's files of the module `usn`.
 const USN: [&str; 3] = ["carver", "reader", "record"];
 
-/// Our static libraries: the journal reader's calls, and those of images and names.
-const LIBRARIES: [&str; 4] = ["usn_journal_reader", "volume_history", "carved_seed", "volume_rewinds"];
+/// Our static library, with all calls.
+const LIBRARY: &str = "volume_history";
 
 fn main() {
     let project = env::var_os("CARGO_MANIFEST_DIR").expect("cargo sets CARGO_MANIFEST_DIR");
@@ -25,15 +25,13 @@ pub fn build(project: &Path) {
     declare("original.rs", &source, &ROOT);
     declare("original_usn.rs", &source.join("usn"), &USN);
 
-    let archive = folder(project, "RATTLE_STATICLIB", "../../target/staticlib");
+    let archive = folder(project, "RATTLE_STATICLIB", "../../target/lib");
     println!("cargo:rustc-link-search=native={}", archive.display());
-    for library in LIBRARIES {
-        present(
-            &archive.join(format!("lib{library}.a")),
-            &format!("`rt staticlib {library}` at the repository's root writes it"),
-        );
-        println!("cargo:rustc-link-lib=static={library}");
-    }
+    present(
+        &archive.join(format!("lib{LIBRARY}.a")),
+        "tools/build-libraries at the repository's root writes it",
+    );
+    println!("cargo:rustc-link-lib=static={LIBRARY}");
 }
 
 /// The folder that the environment variable names, or the default; a relative one counts from this project's folder.
