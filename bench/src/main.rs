@@ -9,6 +9,7 @@ mod cost;
 mod grid;
 mod image;
 mod journal;
+mod ladders;
 mod names;
 mod options;
 mod ours;
@@ -83,8 +84,8 @@ fn main() -> ExitCode {
     }
 }
 
-/// Times the readers on a journal, the carver on an image, the decoder on names, and seeding and rewinding on histories, and prints
-/// a table of each.
+/// Times the readers on a journal, the carver on an image, the decoder on names, paths of deep folders, and seeding and rewinding on
+/// histories, and prints a table of each.
 fn measure(options: &Options) -> Result<(), String> {
     let before = Schedule::now();
     if options.has(Subject::Journal) {
@@ -95,6 +96,9 @@ fn measure(options: &Options) -> Result<(), String> {
     }
     if options.has(Subject::Names) {
         measure_names(options.seed)?;
+    }
+    if options.has(Subject::Paths) {
+        ladders::measure(options)?;
     }
     if options.has(Subject::Rewinds) {
         rewinds::measure(options)?;

@@ -1,7 +1,7 @@
 //! The command line.
 
 pub const USAGE: &str = "usage: bench [--seed N] [--mebibytes N] [--longest-name UNITS] [--image-mebibytes N] \
-[--rewind-records N,N,..] [--plain-records N] [--only journal|image|names|rewinds]";
+[--rewind-records N,N,..] [--plain-records N] [--only journal|image|names|paths|rewinds]";
 
 /// The most records of a rewind: more do not lie in a journal of the longest that is read.
 const MOST_RECORDS: usize = 10_000_000;
@@ -12,6 +12,7 @@ pub enum Subject {
     Journal,
     Image,
     Names,
+    Paths,
     Rewinds,
 }
 
@@ -76,6 +77,7 @@ fn subject(word: &str) -> Option<Subject> {
         "journal" => Some(Subject::Journal),
         "image" => Some(Subject::Image),
         "names" => Some(Subject::Names),
+        "paths" => Some(Subject::Paths),
         "rewinds" => Some(Subject::Rewinds),
         _ => None,
     }
