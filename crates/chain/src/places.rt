@@ -20,7 +20,7 @@ use walk::put_words;
 const PLACE_WORDS: usize = 3;
 
 // A place of some number into a list, where the list has room for it, for all before it and for `below` more.
-pub fn put_place(list: &mut [u64], number: usize, below: usize, place: NamePlace)
+fn put_place(list: &mut [u64], number: usize, below: usize, place: NamePlace)
     requires { ⌜ number + below ≤ deepest ⌝ }
     ensures { λ _. ⌜ now (list .exit) ≡ placed below (now (list .entry)) number place ⌝ }
 {
