@@ -1,4 +1,5 @@
 pub mod ChainLaws
 pub mod PlaceLaws
+pub mod WayLaws
 pub mod CallLaws
 pub mod TwoRuns

@@ -1,9 +1,8 @@
 -- The outcomes that need no text: they depend on the table and the lengths of journal and image, and never on their bytes.
-use Prim.Native.Nat.{ℕ, _+_, _*_, _/_}
+use Prim.Native.Nat.{ℕ}
 use mathlib.Core.List.{List}
 use mathlib.Core.Bool.{cond, not}
 use lib.ListN.{length}
-use lib.Seq.{sets}
 use lib.Dec.{ltb, leb}
 use Rattle.walk.specs.Outcome.{Outcome, refused, answered}
 use Rattle.walk.specs.Lists.{overwrite}
@@ -16,7 +15,7 @@ use Rattle.entry_slots.specs.declared.NamePlace.{NamePlace}
 use Rattle.chain.specs.declared.ResolvedPath.{ResolvedPath}
 use Rattle.chain.specs.declared.ChainAnswer.{ChainAnswer}
 use Rattle.chain.specs.declared.ChainAnswer.the-variants.{Resolved, Refused}
-use Rattle.chain.specs.Chain.{Chain, chainOf, sourceWords, chainWords}
+use Rattle.chain.specs.Chain.{Chain, chainOf, chainWords}
 
 -- 1: journal or image is above the domain; else what comes after
 unfoldable pub inDomain : {A : Type 0} → Lengths → Outcome A → Outcome A
@@ -41,14 +40,6 @@ pathRefusal ls t =
 -- the words with the chain's places in front, where there is room for all of them
 unfoldable pub listed : List ℕ → List NamePlace → List ℕ
 listed l ps = cond (leb (length (chainWords ps)) (length l)) (overwrite l (chainWords ps)) l
-
--- the same where so many places more are to have room, which follow them
-unfoldable pub listedAbove : ℕ → List ℕ → List NamePlace → List ℕ
-listedAbove below l ps = cond (leb (length ps + below) (length l / 3)) (sets l 0 (chainWords ps)) l
-
--- one place more, of this number, where it and those below it have room
-unfoldable pub placed : ℕ → List ℕ → ℕ → NamePlace → List ℕ
-placed below l i p = cond (leb (i + 1 + below) (length l / 3)) (sets l (i * 3) (sourceWords p)) l
 
 -- what the lent chain list holds after a call; a refusal writes nothing
 abbrev pub chainAfter : Outcome Chain → List ℕ → List ℕ

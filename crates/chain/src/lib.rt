@@ -6,13 +6,13 @@
 //
 // Every function here is proved. The call has no `requires`: any table and key get an answer. Of journal and image only the
 // lengths are used, so names decide nothing.
-pub mod places;
 pub mod steps;
 pub mod tracing;
+pub mod way;
 
 ghost use Rattle.chain.specs.Promise.{ChainPromise};
-use crate::places::list_chain;
 use crate::tracing::refusal;
+use crate::way::list_chain;
 use entry_slots::EntryKey;
 
 // How many parents up from the key that is asked for a path is followed.

@@ -1,7 +1,7 @@
 -- Known cases of paths.
 use mathlib.Core.List.{List, [], _∷_, _++_}
 use Rattle.path.specs.Sample.{key, nestedTable, lastKey, loopTable, pathSays, timesA}
-use Rattle.path.specs.Text.{unresolvedWord}
+use Rattle.path_text.specs.Text.{unresolvedWord}
 use Rattle.known.specs.Case.{Case}
 
 -- P9: 256 names under 5:5 begin with a full stop, 257 with UNRESOLVED(5:5); 9:1 as its own parent, named a, gives UNRESOLVED(9:1) and 257 names.

@@ -49,8 +49,8 @@ use Rattle.additions.specs.Storing.{addAll, newKeys, adding}
 use Rattle.entry_slots.specs.declared.NamePlace.{NamePlace}
 use Rattle.chain.specs.Chain.{isRoot, chain}
 use Rattle.chain.specs.Tracing.{inDomain, listed as listedChain}
-use Rattle.path.specs.Text.{endText, placeText, stepText, pathText}
-use Rattle.path.specs.Telling.{placing, decoding}
+use Rattle.path_text.specs.Text.{endText, placeText, stepText, pathText}
+use Rattle.path_text.specs.Decoding.{placing, decoding}
 use Rattle.additions.specs.Entries.{hasReason, entryFrom}
 use Rattle.walk.specs.Lists.{every}
 use Rattle.rewind_records.specs.Environment.{refusalOf as rewindRefusal}

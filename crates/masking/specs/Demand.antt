@@ -26,7 +26,8 @@ use Rattle.entry_slots.specs.declared.EntryKey.{EntryKey}
 use Rattle.entry_slots.specs.declared.NamePlace.{NamePlace}
 use Rattle.chain.specs.Tracing.{tracing, chainAfter}
 use Rattle.path.specs.Alike.{Alike}
-use Rattle.path.specs.Telling.{telling, placing, decoding}
+use Rattle.path_text.specs.Decoding.{placing, decoding}
+use Rattle.path.specs.Telling.{telling}
 use Rattle.masking.specs.Calls.{Sources, sources, State, Call, results, struck, plainsOf, resultsOf}
 
 -- the names that the image carver of run one got with this list: those of the entries that it listed, none where it was refused

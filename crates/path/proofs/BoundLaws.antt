@@ -1,79 +1,91 @@
--- What the names of a chain are counted for: with a name more, small enough for any sum, enough for the names, and, where their bytes are counted, no more.
--- Assumes nothing.
-use Prim.Native.Nat.{ℕ, _+_, _≤_}
-use mathlib.Core.Path.{_≡_, refl, ap}
+-- The names of a way, from its last slot on: their text, the bytes of it, and the most that these can be. Assumes nothing.
+use Prim.Native.Nat.{ℕ, _+_, _-_, _≤_, _<_}
+use mathlib.Core.Path.{_≡_, refl, ap, sym, _∙_}
 use mathlib.Core.List.{List, [], _∷_, _++_}
 use mathlib.Core.Bool.{Bool, true, false}
 use native.Mathlib.Omega.{arith}
-use native.Mathlib.Nat.{le-refl}
-use borrow.Author.Tests.{leb-true, eqb-true, eqb-false}
-use lib.ListN.{length, length-append}
-use lib.Dec.{eqb}
-use Rattle.walk.specs.Refusals.{domain}
+use borrow.Author.Tests.{le-leb, lt-leb, leb-true, leb-false, eqb-true, eqb-false}
+use lib.ListN.{length, length-append, getD}
+use lib.Dec.{leb, eqb}
 use Rattle.utf16.proofs.TextLaws.{name-most}
-use Rattle.entry_slots.specs.Names.{lengthsOf, lengthOf, inside}
+use Rattle.entry_slots.specs.Slots.{nameAt}
 use Rattle.entry_slots.specs.declared.NamePlace.{NamePlace}
 use Rattle.chain.specs.Chain.{Chain}
-use Rattle.path.specs.Text.{endText, stepText, namesText, pathText}
-use Rattle.path.specs.Ways.{stepBound, stepRoom, namesRoom, pathRoom}
-use Rattle.path.proofs.NameLaws.{Sources, step-long, journal-text, image-text}
+use Rattle.chain.specs.Way.{placesOf}
+use Rattle.chain.proofs.WayLaws.{places-less, places-none}
+use Rattle.path_text.specs.Text.{endText, placeText, stepText, namesText, pathText}
+use Rattle.path_text.proofs.NameLaws.{Sources, step-long, journal-text, image-text}
+use Rattle.path.specs.Ways.{stepBound, namesBound, pathBound, entryText}
 
--- the length of a name that is inside
-pub inside-short : (journal image : List ℕ) (p : NamePlace) → inside (lengthsOf journal image) p ≡ true → length journal ≤ domain → length image ≤ domain → p .length ≤ domain
-unfolding inside
-inside-short journal image p e hj hm = go (eqb (p .source) 0) refl (leb-true _ _ e)
+-- whether a number of bytes has room
+pub fits-so : (whole room : ℕ) → whole ≤ room → true ≡ leb whole room
+fits-so whole room h = sym (le-leb whole room h)
+
+pub fits-not : (whole room : ℕ) → room < whole → false ≡ leb whole room
+fits-not whole room h = sym (lt-leb whole room h)
+
+-- a part has room in what another leaves exactly if both have
+pub fits-less : (part own room : ℕ) {whole : ℕ} → own ≤ room → whole ≡ part + own → leb part (room - own) ≡ leb whole room
+fits-less part own room {whole} h e = go (leb whole room) refl
   where
-    go : (b : Bool) → eqb (p .source) 0 ≡ b → p .offset + p .length ≤ lengthOf (lengthsOf journal image) (p .source) → p .length ≤ domain
-    go true x l = let q : lengthOf (lengthsOf journal image) (p .source) ≡ length journal = simp x in omega (arith, l, q)
-    go false x l = let q : lengthOf (lengthsOf journal image) (p .source) ≡ length image = simp x in omega (arith, l, q)
+    go : (b : Bool) → leb whole room ≡ b → leb part (room - own) ≡ b
+    go true q = le-leb part (room - own) (omega (arith, leb-true whole room q))
+    go false q = lt-leb part (room - own) (omega (arith, leb-false whole room q))
+
+-- the last slot's name, and then those of the slots before it
+module _ (words way : List ℕ) (n : ℕ) (some : 0 < n) where
+  abbrev last : NamePlace
+  last = nameAt words (getD way (n - 1) 0)
+
+  pub bound-less : namesBound (placesOf words way n) ≡ stepBound last + namesBound (placesOf words way (n - 1))
+  unfolding namesBound
+  bound-less = ap namesBound (places-less words way n some)
+
+  module _ (journal image : List ℕ) where
+    pub text-less : namesText journal image (placesOf words way n) ≡ stepText journal image last ++ namesText journal image (placesOf words way (n - 1))
+    text-less = ap (namesText journal image) (places-less words way n some)
+
+    pub bytes-less : length (namesText journal image (placesOf words way n)) ≡ 1 + length (placeText journal image last) + length (namesText journal image (placesOf words way (n - 1)))
+    bytes-less =
+        omega (arith, ap length text-less, length-append (stepText journal image last) (namesText journal image (placesOf words way (n - 1))), step-long journal image last)
+
+-- no name is left
+pub bound-none : (words way : List ℕ) {n : ℕ} → n ≡ 0 → namesBound (placesOf words way n) ≡ 0
+unfolding namesBound
+bound-none words way e = rw (e, places-none words way)
+
+pub text-none : (words way journal image : List ℕ) {n : ℕ} → n ≡ 0 → namesText journal image (placesOf words way n) ≡ []
+text-none words way journal image e = rw (e, places-none words way)
 
 module _ (journal image : List ℕ) where
-  -- a name by whether it is counted
-  module _ (p : NamePlace) {counted : Bool} where
-    pub room-counted : counted ≡ true → stepRoom counted journal image p ≡ length (stepText journal image p)
-    unfolding stepRoom
-    room-counted e = rw e
+  pub path-parts : (c : Chain) → pathText journal image c ≡ endText (c .end) ++ namesText journal image (c .places)
+  unfolding pathText
+  path-parts c = refl
 
-    pub room-bound : counted ≡ false → stepRoom counted journal image p ≡ stepBound p
-    unfolding stepRoom
-    room-bound e = rw e
+  pub path-long : (c : Chain) → length (pathText journal image c) ≡ length (endText (c .end)) + length (namesText journal image (c .places))
+  path-long c = ap length (path-parts c) ∙ length-append (endText (c .end)) (namesText journal image (c .places))
 
-  -- a name more
-  pub room-more : (counted : Bool) (ps : List NamePlace) (p : NamePlace)
-      → namesRoom counted journal image (ps ++ (p ∷ [])) ≡ namesRoom counted journal image ps + stepRoom counted journal image p
-  unfolding namesRoom
-  room-more counted [] p = omega arith
-  room-more counted (x ∷ xs) p = omega (arith, room-more counted xs p)
+  -- the parent's path, and then the own name
+  pub entry-parts : (c : Chain) (p : NamePlace) → entryText journal image c p ≡ pathText journal image c ++ stepText journal image p
+  unfolding entryText
+  entry-parts c p = refl
 
-  -- where the bytes are counted, a path takes just as many
-  names-counted : (ps : List NamePlace) → namesRoom true journal image ps ≡ length (namesText journal image ps)
-  unfolding namesRoom stepRoom
-  names-counted [] = refl
-  names-counted (p ∷ ps) = omega (arith, length-append (stepText journal image p) (namesText journal image ps), names-counted ps)
+  pub entry-long : (c : Chain) (p : NamePlace) → length (entryText journal image c p) ≡ length (pathText journal image c) + (1 + length (placeText journal image p))
+  entry-long c p = omega (arith, ap length (entry-parts c p), length-append (pathText journal image c) (stepText journal image p), step-long journal image p)
 
-  pub path-counted : (c : Chain) → pathRoom true journal image c ≡ length (pathText journal image c)
-  unfolding pathRoom pathText
-  path-counted c = omega (arith, length-append (endText (c .end)) (namesText journal image (c .places)), names-counted (c .places))
-
-  -- and otherwise no more
+  -- three bytes for each unit are enough
   module _ (w : Sources journal image) where
-    step-bound : (p : NamePlace) → length (stepText journal image p) ≤ stepBound p
-    step-bound p = go (eqb (p .source) 0) refl
+    pub step-enough : (p : NamePlace) → length (stepText journal image p) ≤ stepBound p
+    step-enough p = go (eqb (p .source) 0) refl
       where
         go : (b : Bool) → eqb (p .source) 0 ≡ b → length (stepText journal image p) ≤ stepBound p
         go true s = omega (arith, step-long journal image p, ap length (journal-text journal image p (eqb-true (p .source) 0 s)), name-most journal (w .journalBytes) (p .offset) (p .length))
         go false s = omega (arith, step-long journal image p, ap length (image-text journal image p (eqb-false (p .source) 0 s)), name-most image (w .imageBytes) (p .offset) (p .length))
 
-    pub step-enough : (counted : Bool) (p : NamePlace) → length (stepText journal image p) ≤ stepRoom counted journal image p
-    unfolding stepRoom
-    step-enough true p = le-refl (length (stepText journal image p))
-    step-enough false p = step-bound p
+    names-enough : (ps : List NamePlace) → length (namesText journal image ps) ≤ namesBound ps
+    unfolding namesBound
+    names-enough [] = omega arith
+    names-enough (p ∷ ps) = omega (arith, length-append (stepText journal image p) (namesText journal image ps), step-enough p, names-enough ps)
 
-    names-enough : (counted : Bool) (ps : List NamePlace) → length (namesText journal image ps) ≤ namesRoom counted journal image ps
-    unfolding namesRoom
-    names-enough counted [] = omega arith
-    names-enough counted (p ∷ ps) = omega (arith, length-append (stepText journal image p) (namesText journal image ps), step-enough counted p, names-enough counted ps)
-
-    pub path-enough : (counted : Bool) (c : Chain) → length (pathText journal image c) ≤ pathRoom counted journal image c
-    unfolding pathText pathRoom
-    path-enough counted c = omega (arith, length-append (endText (c .end)) (namesText journal image (c .places)), names-enough counted (c .places))
+    pub path-enough : (c : Chain) → length (pathText journal image c) ≤ pathBound c
+    path-enough c = omega (arith, path-long c, names-enough (c .places))

@@ -1,46 +1,35 @@
--- The ways out of the calls, by their tests: the outcome, and what the lent list and the text then hold. Assumes nothing.
+-- The ways out of the call, by its tests: the outcome, and what the lent list and the text then hold. Assumes nothing.
 use Prim.Native.Nat.{ℕ, _+_, _-_, _*_, _≤_, _<_}
 use mathlib.Core.Path.{_≡_, refl, ap, sym, _∙_}
 use mathlib.Core.List.{List, []}
 use mathlib.Core.Bool.{Bool, true, false}
 use native.Mathlib.Omega.{arith}
 use native.Mathlib.Nat.{zero-add}
-use borrow.Author.Tests.{lt-ltb, le-ltb, ltb-true, ltb-false}
+use borrow.Author.Tests.{ltb-true, ltb-false}
 use lib.Dec.{ltb}
 use lib.ListN.{length}
 use lib.Seq.{sets}
 use Rattle.walk.specs.Outcome.{Outcome, refused, answered}
-use Rattle.walk.specs.Refusals.{aboveDomain, nameOutside, textFull, domain}
+use Rattle.walk.specs.Refusals.{textFull}
 use Rattle.walk.proofs.ListLaws.{sets-front}
-use Rattle.utf16.specs.declared.Decoded.{Decoded}
-use Rattle.utf16.specs.declared.Decoded.the-variants as decoded
-use Rattle.utf16.proofs.PutLaws.{Put}
-use Rattle.entry_slots.specs.Names.{lengthsOf, inside}
+use Rattle.entry_slots.specs.Names.{lengthsOf}
 use Rattle.entry_slots.specs.Slots.{stride}
 use Rattle.entry_slots.specs.Table.{Table}
 use Rattle.entry_slots.specs.declared.EntryKey.{EntryKey}
-use Rattle.entry_slots.specs.declared.NamePlace.{NamePlace}
 use Rattle.chain.specs.declared.ResolvedPath.{ResolvedPath}
 use Rattle.chain.specs.Chain.{Chain, chain, chainOf, resolved}
 use Rattle.chain.specs.Settings.{depth}
 use Rattle.chain.specs.Tracing.{tracing, listed, chainAfter}
-use Rattle.chain.proofs.CallLaws.{journal-above, image-above, both-within, chain-traced}
-use Rattle.entry_slots.proofs.IndexLaws.{none-indexed}
-use Rattle.path.specs.Text.{placeText, pathText}
-use Rattle.path.specs.Telling.{withText, placing}
-use Rattle.path.specs.Promise.{pathOut, Paths, decodeOut, Decodes, WayAsks, Behinds}
+use Rattle.chain.proofs.CallLaws.{Traced, chain-traced}
+use Rattle.path_text.specs.Text.{pathText}
+use Rattle.path_text.proofs.CallLaws.{text-over, text-fits}
+use Rattle.chain.specs.Promise.{Climbs}
+use Rattle.path.specs.Promise.{pathOut, Paths, WayAsks, Behinds}
+use Rattle.path.proofs.WayLaws.{climbed-asks}
 use Rattle.path.specs.declared.ways.Behind.{Behind}
 use Rattle.path.specs.declared.ways.Behind.the-variants.{To, Full}
 use Rattle.path.specs.declared.PathAnswer.{PathAnswer}
 use Rattle.path.specs.declared.PathAnswer.the-variants.{Path, Refused}
-
--- text that does not fit, and text that does
-module _ {A : Type 0} (text : A → List ℕ) (room : ℕ) {o : Outcome A} {a : A} (e : o ≡ answered a) where
-  pub text-over : room < length (text a) → withText text room o ≡ refused textFull
-  text-over h = rw (e, lt-ltb room (length (text a)) h)
-
-  pub text-fits : length (text a) ≤ room → withText text room o ≡ answered a
-  text-fits h = rw (e, le-ltb room (length (text a)) h)
 
 module _ (journal image : List ℕ) (t : Table) (k : EntryKey) (x l : List ℕ) where
   abbrev Comes : PathAnswer → List ℕ → List ℕ → Type 0
@@ -59,20 +48,21 @@ module _ (journal image : List ℕ) (t : Table) (k : EntryKey) (x l : List ℕ) 
   path-refused e = refuses (rw e)
 
   -- the tests have passed
-  pub path-asks : trail ≡ answered (chainOf t depth k) → WayAsks journal image t [] []
-  path-asks e =
-      let w = chain-traced (lengthsOf journal image) t depth k e in
-      let fits : t .used * stride ≤ length (t .words) = omega (arith, w .fits) in
-      record {
-        fits = fits;
-        index = none-indexed (t .words) [] [] (t .used) fits (omega arith) .1;
-        wide = λ p. absurd (omega arith);
-        insides = w .places;
-        near-journal = w .journal;
-        near-image = w .image;
-      }
+  module _ (is : trail ≡ answered (chainOf t depth k)) where
+    traced : Traced (lengthsOf journal image) t depth k (resolved (chainOf t depth k))
+    traced = chain-traced (lengthsOf journal image) t depth k is
 
-  module _ (is : trail ≡ answered (chainOf t depth k)) {r : Behind} {o : List ℕ} (g : Behinds whole l 0 r o) where
+    pub path-fits : t .used * stride ≤ length (t .words)
+    path-fits = omega (arith, traced .fits)
+
+    pub path-asks : {way way′ : List ℕ} {p : ResolvedPath} → Climbs t (chainOf t depth k) way 0 p way′ → WayAsks journal image (t .words) way′ (p .names)
+    path-asks w = climbed-asks journal image t (chainOf t depth k) _ w path-fits (traced .places) (traced .journal) (traced .image)
+
+  module _ (is : trail ≡ answered (chainOf t depth k)) {c : Chain} (same : c ≡ chainOf t depth k) {r : Behind} {o : List ℕ}
+      (told : Behinds (pathText journal image c) l 0 r o) where
+    g : Behinds whole l 0 r o
+    g = rw same at told
+
     -- there is no room, or there is
     pub path-full : r ≡ Full → Comes (Refused textFull) x o
     path-full f = go (ltb (length l - 0) (length whole)) refl
@@ -102,43 +92,3 @@ module _ (journal image : List ℕ) (t : Table) (k : EntryKey) (x l : List ℕ) 
               places = rw all list-is;
               written = rw all (text-is ∙ sets-front l whole fits);
             }
-
--- decoding the name at a place
-module _ (journal image : List ℕ) (p : NamePlace) (l : List ℕ) where
-  abbrev Comes′ : Decoded → List ℕ → Type 0
-  Comes′ = Decodes journal image p l
-
-  unread : {n : ℕ} → decodeOut journal image p l ≡ refused n → Comes′ (decoded.Refused n) l
-  unread e = record { answer = rw e; written = rw e }
-
-  unplaced : {n : ℕ} → placing (lengthsOf journal image) p ≡ refused n → Comes′ (decoded.Refused n) l
-  unplaced e = unread (rw e)
-
-  pub decode-journal : domain < length journal → Comes′ (decoded.Refused aboveDomain) l
-  unfolding placing
-  decode-journal h = unplaced (journal-above (lengthsOf journal image) _ h)
-
-  module _ (a : length journal ≤ domain) where
-    pub decode-image : domain < length image → Comes′ (decoded.Refused aboveDomain) l
-    unfolding placing
-    decode-image h = unplaced (image-above (lengthsOf journal image) _ a h)
-
-    module _ (b : length image ≤ domain) where
-      pub decode-outside : inside (lengthsOf journal image) p ≡ false → Comes′ (decoded.Refused nameOutside) l
-      unfolding placing
-      decode-outside e = unplaced (both-within (lengthsOf journal image) _ a b ∙ simp e)
-
-      module _ (e : inside (lengthsOf journal image) p ≡ true) where
-        placed : placing (lengthsOf journal image) p ≡ answered p
-        unfolding placing
-        placed = both-within (lengthsOf journal image) _ a b ∙ simp e
-
-        pub decode-full : {n : ℕ} → n ≡ length (placeText journal image p) → length l < n → Comes′ (decoded.Refused textFull) l
-        decode-full f h = unread (text-over (placeText journal image) (length l) placed (rw f at h))
-
-        pub decode-told : {n r : ℕ} {m : List ℕ} → n ≡ length (placeText journal image p) → n ≤ length l → Put l m 0 r (placeText journal image p)
-            → Comes′ (decoded.Text r) m
-        decode-told f h q =
-            let fits : length (placeText journal image p) ≤ length l = rw f at h in
-            let o = text-fits (placeText journal image) (length l) placed fits in
-            record { answer = rw o (ap answered (q .0 ∙ zero-add _)); written = rw o (q .1 ∙ sets-front l (placeText journal image p) fits) }

@@ -12,7 +12,7 @@ use Rattle.entry_slots.specs.Names.{inside}
 use Rattle.entry_slots.specs.Slots.{sameKey, findFrom, rows}
 use Rattle.chain.specs.Chain.{isRoot, chain}
 use Rattle.chain.specs.Tracing.{inDomain, tracing}
-use Rattle.path.specs.Text.{unknownWord, unresolvedWord, keyText, endText, placeText, stepText, pathText}
+use Rattle.path_text.specs.Text.{unknownWord, unresolvedWord, keyText, endText, placeText, stepText, pathText}
 use Rattle.path.specs.Sample.{key, nested, nestedTable, lastKey, loopTable, pathSays, timesA}
 
 -- 9:1 as its own parent, named a: UNRESOLVED(9:1) and 257 times \a

@@ -1,9 +1,5 @@
-pub mod MarkerLaws
-pub mod NameLaws
-pub mod PathLaws
 pub mod BoundLaws
 pub mod WayLaws
-pub mod BehindLaws
 pub mod CallLaws
 pub mod TwoRuns
 pub mod Examples

@@ -28,8 +28,8 @@ use Rattle.chain.specs.declared.ChainEnd.the-variants.{Root, Unresolved}
 use Rattle.chain.specs.Settings.{depth}
 use Rattle.chain.specs.Chain.{Chain, bare, under, isRoot, chain}
 use Rattle.chain.proofs.CallLaws.{traced}
-use Rattle.path.specs.Text.{unresolvedWord, keyText, endText, placeText, stepText, pathText}
-use Rattle.path.specs.Telling.{withText}
+use Rattle.path_text.specs.Text.{unresolvedWord, keyText, endText, placeText, stepText, pathText}
+use Rattle.path_text.specs.Decoding.{withText}
 use Rattle.path.specs.Sample.{key, journalA, slotA, nested, nestedTable, lastKey, pathSays, timesA}
 
 -- word c of slot j

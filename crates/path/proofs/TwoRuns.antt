@@ -17,10 +17,11 @@ use Rattle.entry_slots.specs.declared.EntryKey.{EntryKey}
 use Rattle.entry_slots.specs.declared.NamePlace.{NamePlace}
 use Rattle.chain.specs.Tracing.{inDomain, tracing}
 use Rattle.chain.proofs.TwoRuns.{core-refusals}
-use Rattle.path.specs.Text.{placeText, pathText}
-use Rattle.path.specs.Telling.{withText, telling, placing, decoding}
+use Rattle.path_text.specs.Text.{placeText, pathText}
+use Rattle.path_text.specs.Decoding.{withText, placing, decoding}
+use Rattle.path.specs.Telling.{telling}
 use Rattle.path.specs.Alike.{Beside, Alike}
-use Rattle.path.proofs.CallLaws.{text-fits}
+use Rattle.path_text.proofs.CallLaws.{text-fits}
 
 pub with-text : {A : Type 0} (text : A → List ℕ) (room : ℕ) (o : Outcome A) → Beside o (withText text room o)
 with-text text room (refused n) = refl

@@ -1,131 +1,83 @@
--- A path that is written only where what it is counted for has room: what the answer says of the room, the top, and a name more. Assumes nothing.
-use Prim.Native.Nat.{ℕ, _+_, _-_, _≤_, _<_}
+-- What is known of a way once it is climbed, a path written name by name, and a text that is written only where it has room. Assumes nothing.
+use Prim.Native.Nat.{ℕ, _+_, _-_, _*_, _≤_, _<_}
 use mathlib.Core.Path.{_≡_, refl, ap, sym, _∙_}
-use mathlib.Core.List.{List, _++_, append-assoc, append-nil}
-use mathlib.Core.Bool.{Bool, true, false}
+use mathlib.Core.List.{List, [], _++_}
+use mathlib.Core.Bool.{Bool, true, false, cond}
 use native.Mathlib.Omega.{arith}
-use borrow.Author.Tests.{le-leb, lt-leb, leb-true, leb-false}
+use borrow.Author.Tests.{leb-true, leb-false, lt-ltb, le-ltb}
 use lib.ListN.{length, length-append}
+use lib.Seq.{sets, length-sets}
 use lib.Dec.{leb}
+use Rattle.walk.specs.Refusals.{domain}
+use Rattle.walk.proofs.ListLaws.{sets-append}
 use Rattle.utf16.proofs.PutLaws.{Put}
-use Rattle.entry_slots.specs.Slots.{infoAt}
+use Rattle.entry_slots.specs.Names.{lengthsOf, allInside}
+use Rattle.entry_slots.specs.Slots.{stride, nameAt, namesIn}
 use Rattle.entry_slots.specs.Table.{Table}
-use Rattle.entry_slots.specs.declared.EntryKey.{EntryKey}
-use Rattle.entry_slots.specs.declared.EntryInfo.{EntryInfo}
-use Rattle.chain.specs.declared.ChainEnd.{ChainEnd}
-use Rattle.chain.specs.declared.steps.Way.the-variants.{End, Slot}
-use Rattle.chain.specs.Chain.{Chain, chain, stepOf}
-use Rattle.chain.proofs.ChainLaws.{chain-end, chain-up}
-use Rattle.path.specs.Text.{endText, namesText, pathText, stepText}
-use Rattle.path.specs.Ways.{stepRoom, namesRoom, pathRoom}
-use Rattle.path.specs.Promise.{Ways}
-use Rattle.path.specs.declared.ways.Behind.{Behind}
-use Rattle.path.specs.declared.ways.Behind.the-variants.{Full, To}
-use Rattle.path.proofs.MarkerLaws.{second-room, both-put}
-use Rattle.path.proofs.NameLaws.{Sources}
-use Rattle.path.proofs.PathLaws.{names-up}
-use Rattle.path.proofs.BoundLaws.{room-more, step-enough, path-enough}
+use Rattle.entry_slots.proofs.NameLaws.{all-inside-at}
+use Rattle.chain.specs.Chain.{Chain}
+use Rattle.chain.specs.Promise.{Climbs}
+use Rattle.chain.specs.declared.ResolvedPath.{ResolvedPath}
+use Rattle.chain.proofs.WayLaws.{climbed-below, climbed-slots}
+use Rattle.path.specs.Promise.{WayAsks, Behinds}
+use Rattle.path.specs.declared.ways.Behind.the-variants.{To, Full}
 
--- nothing is written for want of room
-pub record Nothing (most : ℕ) (text : List ℕ) (at : ℕ) (text′ : List ℕ) : Type 0 where
-  pub short : length text - at < most
-  pub text-kept : text′ ≡ text
+-- the names of a way up a table whose names are inside
+pub climbed-asks : (journal image : List ℕ) (t : Table) (c : Chain) (way : List ℕ) {r : ResolvedPath} {way′ : List ℕ} → Climbs t c way 0 r way′
+    → t .used * stride ≤ length (t .words) → allInside (lengthsOf journal image) (namesIn (t .words) (t .used)) ≡ true → length journal ≤ domain → length image ≤ domain
+    → WayAsks journal image (t .words) way′ (r .names)
+climbed-asks journal image t c way g fits names hj hm =
+    record {
+      slots = climbed-slots t c way g fits;
+      insides = λ i h. all-inside-at (lengthsOf journal image) (nameAt (t .words)) 0 (t .used) _ names (omega arith) (omega (arith, climbed-below t c way g .each i h));
+      near-journal = hj;
+      near-image = hm;
+    }
 
--- all is written
-pub record Written (most : ℕ) (more text : List ℕ) (at to : ℕ) (text′ : List ℕ) : Type 0 where
-  pub room : most ≤ length text - at
-  pub put : Put text text′ at to more
+-- The text was l₀ and is l, the next byte goes to `to`, and of the whole that begins at `at` the rest is still to be written: what goes on to be written ends in
+-- the whole.
+pub record Telling (l₀ l : List ℕ) (at to : ℕ) (rest whole : List ℕ) : Type 0 where
+  pub ends : sets l to rest ≡ sets l₀ at whole
+  pub same : length l ≡ length l₀
+  pub count : to + length rest ≡ at + length whole
 
-module _ (most : ℕ) (more text : List ℕ) (at : ℕ) where
-  pub ways-full : length text - at < most → Ways most more text at Full text
-  ways-full h = let q = lt-leb most (length text - at) h in record { answer = sym (rw q); written = sym (rw q) }
+pub telling-start : (l₀ : List ℕ) (at : ℕ) (front rest : List ℕ) {whole l : List ℕ} {to : ℕ} → whole ≡ front ++ rest → Put l₀ l at to front → Telling l₀ l at to rest whole
+telling-start l₀ at front rest {whole} {l} {to} e p =
+    record {
+      ends = rw (p .1, p .0, e) (sym (sets-append l₀ at front rest));
+      same = ap length (p .1) ∙ length-sets l₀ at front;
+      count = omega (arith, p .0, ap length e, length-append front rest);
+    }
 
-  pub ways-put : {to : ℕ} {x : List ℕ} → Written most more text at to x → Ways most more text at (To to) x
-  ways-put {to} w =
-      let q = le-leb most (length text - at) (w .room) in
-      record { answer = ap To (w .put .0) ∙ sym (rw q); written = w .put .1 ∙ sym (rw q) }
+module _ {l₀ l : List ℕ} {at to : ℕ} {rest whole : List ℕ} (w : Telling l₀ l at to rest whole) where
+  pub telling-room : (first more : List ℕ) → rest ≡ first ++ more → at + length whole ≤ length l₀ → to + length first ≤ length l
+  telling-room first more e h = omega (arith, w .count, w .same, ap length e, length-append first more)
 
-  module _ {r : Behind} {x : List ℕ} (g : Ways most more text at r x) where
-    pub was-full : r ≡ Full → Nothing most text at x
-    was-full f = go (leb most (length text - at)) refl
-      where
-        go : (b : Bool) → leb most (length text - at) ≡ b → Nothing most text at x
-        go true q = let y : To (at + length more) ≡ Full = sym (sym f ∙ g .answer ∙ rw q) in let z : _≡_ {A = ℕ} 0 1 = cc in absurd (omega arith)
-        go false q = record { short = leb-false _ _ q; text-kept = g .written ∙ rw q }
+  pub telling-more : (first more : List ℕ) → rest ≡ first ++ more → {l′ : List ℕ} {to′ : ℕ} → Put l l′ to to′ first → Telling l₀ l′ at to′ more whole
+  telling-more first more e p =
+      record {
+        ends = rw (p .1, p .0) (sym (sets-append l to first more) ∙ ap (sets l to) (sym e) ∙ w .ends);
+        same = ap length (p .1) ∙ length-sets l to first ∙ w .same;
+        count = omega (arith, p .0, w .count, ap length e, length-append first more);
+      }
 
-    pub was-put : {to : ℕ} → r ≡ To to → Written most more text at to x
-    was-put {to} f = go (leb most (length text - at)) refl
-      where
-        go : (b : Bool) → leb most (length text - at) ≡ b → Written most more text at to x
-        go true q =
-            let y : To to ≡ To (at + length more) = sym f ∙ g .answer ∙ rw q in
-            record { room = leb-true _ _ q; put = (cc, g .written ∙ rw q) }
-        go false q = let y : To to ≡ Full = sym f ∙ g .answer ∙ rw q in let z : _≡_ {A = ℕ} 0 1 = cc in absurd (omega arith)
+  pub telling-end : rest ≡ [] → (to ≡ at + length whole) × (l ≡ sets l₀ at whole)
+  telling-end e = (omega (arith, w .count, ap length e), ap (sets l to) (sym e) ∙ w .ends)
 
-    -- a part more has room too, where both take no more
-    pub next-room : {to : ℕ} → r ≡ To to → (own : List ℕ) → length more + length own ≤ most → at ≤ length text → to + length own ≤ length x
-    next-room f own few l = let o = was-put f in second-room text at more own refl (o .put) (omega (arith, length-append more own, o .room))
+-- a text that has no room for more is left alone, and one that has holds it
+module _ (more text : List ℕ) (at : ℕ) {fits : Bool} (e : fits ≡ leb (length more) (length text - at)) where
+  pub behind-full : fits ≡ false → Behinds more text at Full text
+  behind-full h =
+      let q = lt-ltb (length text - at) (length more) (leb-false _ _ (sym e ∙ h)) in
+      record { answer = sym (ap (λ (b : Bool). cond b Full (To (at + length more))) q); written = sym (ap (λ (b : Bool). cond b text (sets text at more)) q) }
 
-module _ (counted : Bool) (journal image : List ℕ) (t : Table) (n : ℕ) (k : EntryKey) where
-  abbrev whole : List ℕ
-  whole = pathText journal image (chain t n k)
+  pub behind-room : fits ≡ true → at ≤ length text → at + length more ≤ length text
+  behind-room h g = omega (arith, leb-true (length more) (length text - at) (sym e ∙ h))
 
-  abbrev size : ℕ
-  size = pathRoom counted journal image (chain t n k)
-
-  -- the chain ends here
-  module _ {e : ChainEnd} (h : End e ≡ stepOf t n k) where
-    size-end : size ≡ length (endText e)
-    unfolding pathRoom namesRoom
-    size-end = rw (chain-end t n k h) (omega arith)
-
-    path-end : whole ≡ endText e
-    unfolding pathText
-    path-end = rw (chain-end t n k h) (append-nil (endText e))
-
-    pub way-end : (below : ℕ) (text : List ℕ) (at : ℕ) {r : Behind} {x : List ℕ} → Ways (length (endText e) + below) (endText e) text at r x
-        → Ways (size + below) whole text at r x
-    way-end below text at g = rw (size-end, path-end) g
-
-  -- it goes on from a slot
-  module _ {i : ℕ} (h : Slot i ≡ stepOf t n k) {info : EntryInfo} (e : info ≡ infoAt (t .words) i) where
-    abbrev above : Chain
-    above = chain t (n - 1) (info .parent)
-
-    abbrev upper : List ℕ
-    upper = pathText journal image above
-
-    abbrev own : List ℕ
-    own = stepText journal image (info .name)
-
-    size-up : size ≡ pathRoom counted journal image above + stepRoom counted journal image (info .name)
-    unfolding pathRoom
-    size-up = rw (chain-up t n k h .rest, e) (omega (arith, room-more journal image counted (chain t (n - 1) (infoAt (t .words) i .parent) .places) (infoAt (t .words) i .name)))
-
-    same-end : chain t n k .end ≡ above .end
-    same-end = rw (chain-up t n k h .rest, e) refl
-
-    path-up : whole ≡ upper ++ own
-    unfolding pathText
-    path-up = rw (same-end, names-up journal image t n k h e) (sym (append-assoc (endText (above .end)) (namesText journal image (above .places)) own))
-
-    module _ {l : ℕ} (s : l ≡ stepRoom counted journal image (info .name)) (below : ℕ) (text : List ℕ) (at : ℕ) {r : Behind} {x : List ℕ}
-        (g : Ways (pathRoom counted journal image above + (below + l)) upper text at r x) where
-      abbrev most : ℕ
-      most = pathRoom counted journal image above + (below + l)
-
-      pub way-full : r ≡ Full → Ways (size + below) whole text at Full x
-      way-full f =
-          let o = was-full most upper text at g f in
-          rw (o .text-kept) (ways-full (size + below) whole text at (omega (arith, o .short, size-up, s)))
-
-      module _ {to : ℕ} (f : r ≡ To to) where
-        pub way-room : Sources journal image → at ≤ length text → to + length own ≤ length x
-        way-room w =
-            next-room most upper text at g f own
-            (omega (arith, s, path-enough journal image w counted above, step-enough journal image w counted (info .name)))
-
-        pub way-put : {x′ : List ℕ} {z : ℕ} → Put x x′ to z own → Ways (size + below) whole text at (To z) x′
-        way-put v =
-            let o = was-put most upper text at g f in
-            ways-put (size + below) whole text at (record { room = omega (arith, o .room, size-up, s); put = both-put text at upper own path-up (o .put) v })
+  pub behind-put : fits ≡ true → {to : ℕ} {x : List ℕ} → Put text x at to more → Behinds more text at (To to) x
+  behind-put h p =
+      let q = le-ltb (length text - at) (length more) (leb-true _ _ (sym e ∙ h)) in
+      record {
+        answer = ap To (p .0) ∙ sym (ap (λ (b : Bool). cond b Full (To (at + length more))) q);
+        written = p .1 ∙ sym (ap (λ (b : Bool). cond b text (sets text at more)) q);
+      }

@@ -6,7 +6,7 @@ use Rattle.entry_slots.specs.Slots.{entryWords}
 use Rattle.entry_slots.specs.Table.{Table, table}
 use Rattle.entry_slots.specs.declared.EntryKey.{EntryKey}
 use Rattle.chain.specs.Settings.{depth}
-use Rattle.path.specs.Text.{pathText}
+use Rattle.path_text.specs.Text.{pathText}
 use Rattle.path.specs.Telling.{telling}
 
 abbrev pub key : ℕ → ℕ → EntryKey

@@ -1,34 +1,25 @@
-// The way up from a key, with its text on the way back: paths written one behind the other into one text.
+// The text of a way up the lookup table, whose slots a lent list has: whether it has room, and its bytes, at the front of a text or
+// behind what it holds.
 //
-// The way goes by an index of the lookup table, that of `entry_slots`, with heads of length 0 for none. The functions here are helpers
-// of our own crates: they ask for a table whose names are inside and for an index that is the table's.
+// The functions here are helpers of our own crates: they ask for a way of slots whose names are inside.
 ghost use mathlib.Core.Path.{_≡_};
 ghost use mathlib.Core.Bool.{true};
-ghost use mathlib.Core.List.{[]};
-ghost use Prim.Native.Nat.{_+_, _*_, _^_, _≤_, _<_};
+ghost use Prim.Native.Nat.{_+_, _≤_};
 ghost use lib.ListN.{length};
-ghost use Rattle.walk.specs.Refusals.{domain};
+ghost use lib.Seq.{sets};
+ghost use lib.Dec.{leb};
 ghost use Rattle.entry_slots.specs.Names.{lengthsOf, inside};
-ghost use Rattle.entry_slots.specs.Table.{table};
-ghost use Rattle.path.specs.Text.{stepMost};
-ghost use Rattle.path.specs.Ways.{stepRoom};
-ghost use Rattle.path.specs.Promise.{WayAsks, TopPromise, WayPromise, TryPromise, FrontPromise, BehindPromise};
-use crate::text::end_length;
-use crate::text::place_length;
-use crate::text::put_end;
-use crate::text::put_step;
-use chain::ChainEnd;
-use chain::DEPTH;
-use chain::steps::Way;
-use chain::steps::step;
-use entry_slots::EntryKey;
+ghost use Rattle.chain.specs.Way.{Slots, chainBy};
+ghost use Rattle.path_text.specs.Text.{pathText};
+ghost use Rattle.path.specs.Ways.{pathBound, entryText};
+ghost use Rattle.path.specs.Promise.{WayAsks, FrontPromise, BehindPromise};
+use chain::ResolvedPath;
 use entry_slots::NamePlace;
 use entry_slots::slots::info_at;
-
-// The room that is asked for: that of the most that bytes can be, or that of the bytes, which are counted then.
-const MOST: bool = false;
-
-const COUNTED: bool = true;
+use path_text::text::end_length;
+use path_text::text::place_length;
+use path_text::text::put_end;
+use path_text::text::put_step;
 
 // What becomes of a path that goes behind other text: where the text ends then, or that there is no room for it.
 pub enum Behind {
@@ -36,207 +27,182 @@ pub enum Behind {
     Full,
 }
 
-// What a backslash and the name at a place are counted for: their bytes, or the most that they can take, three for each unit of
-// UTF-16.
-fn step_room(journal: &[u8], image: &[u8], place: NamePlace, counted: bool) -> usize
-    requires { ⌜ inside (lengthsOf (now journal) (now image)) place ≡ true ⌝ }
-    requires { ⌜ (length (now journal) ≤ domain) × (length (now image) ≤ domain) ⌝ }
-    ensures { λ r. ⌜ (r ≡ stepRoom counted (now (journal .entry)) (now (image .entry)) place) × (r ≤ stepMost) ⌝ }
+// Whether the most bytes that a path can take, three for each unit of its names, are no more than the room.
+fn surely_fits(slots: &[u64], way: &[usize], path: ResolvedPath, room: usize) -> bool
+    requires { ⌜ Slots (now slots) (now way) (path .names) ⌝ }
+    ensures { λ r. ⌜ r ≡ leb (pathBound (chainBy (now (slots .entry)) (now (way .entry)) path)) room ⌝ }
 {
-    if counted {
-        return 1 + place_length(journal, image, place);
+    let end = path.end;
+    let ending = end_length(end);
+    if room < ending {
+        return false;
     }
-    1 + 3 * (place.length as usize / 2)
+    let mut spare = room - ending;
+    let mut left = path.names;
+    while 0 < left {
+        left -= 1;
+        let info = info_at(slots, way[left]);
+        let name = info.name;
+        let units = name.length / 2;
+        if spare == 0 {
+            return false;
+        }
+        if (((spare - 1) / 3) as u64) < units {
+            return false;
+        }
+        spare -= 1 + 3 * (units as usize);
+    }
+    true
 }
 
-// The end of a chain behind the first bytes of a text, where there is room for it and for `below` bytes more. Otherwise nothing
-// is written.
-fn put_top(end: ChainEnd, below: usize, text: &mut [u8], at: usize) -> Behind
-    requires { ⌜ (below < 2 ^ 62) × (at ≤ length (now text)) ⌝ }
-    ensures { λ r. ⌜ TopPromise end below text at r ⌝ }
+// Whether the bytes of a path are no more than the room. Counting stops as soon as they are not: each unit of a name takes a byte at
+// least, so that no name is counted that has more units than there is room.
+fn bytes_fit(
+    journal: &[u8],
+    image: &[u8],
+    slots: &[u64],
+    way: &[usize],
+    path: ResolvedPath,
+    room: usize,
+) -> bool
+    requires { ⌜ WayAsks (now journal) (now image) (now slots) (now way) (path .names) ⌝ }
+    ensures { λ r. ⌜ r ≡ leb (length (pathText (now (journal .entry)) (now (image .entry)) (chainBy (now (slots .entry)) (now (way .entry)) path))) room ⌝ }
 {
-    if text.len() - at < end_length(end) + below {
-        return Behind::Full;
+    let end = path.end;
+    let ending = end_length(end);
+    if room < ending {
+        return false;
     }
-    Behind::To(put_end(text, at, end))
+    let mut spare = room - ending;
+    let mut left = path.names;
+    while 0 < left {
+        left -= 1;
+        let info = info_at(slots, way[left]);
+        let name = info.name;
+        if (spare as u64) <= name.length / 2 {
+            return false;
+        }
+        let bytes = place_length(journal, image, name);
+        if spare <= bytes {
+            return false;
+        }
+        spare -= 1 + bytes;
+    }
+    true
 }
 
-// The path of a key behind the first bytes of a text, where there is room for what it is counted for and for `below` bytes more.
-// Otherwise nothing is written. Each call adds what its name is counted for; the top knows whether all of it has room and writes
-// the end, and the names follow on the way back.
+// Whether a path has room. Its bytes are counted only where the most that they can be does not fit.
+fn path_fits(
+    journal: &[u8],
+    image: &[u8],
+    slots: &[u64],
+    way: &[usize],
+    path: ResolvedPath,
+    room: usize,
+) -> bool
+    requires { ⌜ WayAsks (now journal) (now image) (now slots) (now way) (path .names) ⌝ }
+    ensures { λ r. ⌜ r ≡ leb (length (pathText (now (journal .entry)) (now (image .entry)) (chainBy (now (slots .entry)) (now (way .entry)) path))) room ⌝ }
+{
+    if surely_fits(slots, way, path, room) {
+        return true;
+    }
+    bytes_fit(journal, image, slots, way, path, room)
+}
+
+// Whether the path of an entry, by its parent's and its own name, has room.
+fn entry_fits(
+    journal: &[u8],
+    image: &[u8],
+    slots: &[u64],
+    way: &[usize],
+    path: ResolvedPath,
+    name: NamePlace,
+    room: usize,
+) -> bool
+    requires { ⌜ WayAsks (now journal) (now image) (now slots) (now way) (path .names) ⌝ }
+    requires { ⌜ inside (lengthsOf (now journal) (now image)) name ≡ true ⌝ }
+    ensures { λ r. ⌜ r ≡ leb (length (entryText (now (journal .entry)) (now (image .entry)) (chainBy (now (slots .entry)) (now (way .entry)) path) name)) room ⌝ }
+{
+    let units = name.length as usize / 2;
+    let most = 1 + 3 * units;
+    if most <= room {
+        if surely_fits(slots, way, path, room - most) {
+            return true;
+        }
+    }
+    if room <= units {
+        return false;
+    }
+    let own = 1 + place_length(journal, image, name);
+    if room < own {
+        return false;
+    }
+    bytes_fit(journal, image, slots, way, path, room - own)
+}
+
+// A path behind the first bytes of a text: its end, and then a backslash and a name for each slot of the way, from the top down.
 fn put_way(
     journal: &[u8],
     image: &[u8],
     slots: &[u64],
-    used: usize,
-    heads: &[u64],
-    nexts: &[u64],
-    key: EntryKey,
-    levels: usize,
-    counted: bool,
-    below: usize,
+    way: &[usize],
+    path: ResolvedPath,
     text: &mut [u8],
     at: usize,
-) -> Behind
-    requires { ⌜ WayAsks (now journal) (now image) (table (now slots) used) (now heads) (now nexts) ⌝ }
-    requires { ⌜ (below + levels * stepMost < 2 ^ 62) × (at ≤ length (now text)) ⌝ }
-    ensures { λ r. ⌜ WayPromise journal image slots used key levels counted below text at r ⌝ }
+) -> usize
+    requires { ⌜ WayAsks (now journal) (now image) (now slots) (now way) (path .names) ⌝ }
+    requires { ⌜ at + length (pathText (now journal) (now image) (chainBy (now slots) (now way) path)) ≤ length (now text) ⌝ }
+    ensures { λ r. ⌜ r ≡ at + length (pathText (now (journal .entry)) (now (image .entry)) (chainBy (now (slots .entry)) (now (way .entry)) path)) ⌝ }
+    ensures { λ _. ⌜ now (text .exit) ≡ sets (now (text .entry)) at (pathText (now (journal .entry)) (now (image .entry)) (chainBy (now (slots .entry)) (now (way .entry)) path)) ⌝ }
 {
-    match step(slots, used, heads, nexts, key, levels) {
-        Way::End(end) => put_top(end, below, text, at),
-        Way::Slot(i) => {
-            let info = info_at(slots, i);
-            let parent = info.parent;
-            let name = info.name;
-            match put_way(
-                journal,
-                image,
-                slots,
-                used,
-                heads,
-                nexts,
-                parent,
-                levels - 1,
-                counted,
-                below + step_room(journal, image, name, counted),
-                text,
-                at,
-            ) {
-                Behind::To(to) => Behind::To(put_step(journal, image, name, text, to)),
-                Behind::Full => Behind::Full,
-            }
-        }
+    let end = path.end;
+    let mut to = put_end(text, at, end);
+    let mut left = path.names;
+    while 0 < left {
+        left -= 1;
+        let info = info_at(slots, way[left]);
+        to = put_step(journal, image, info.name, text, to);
     }
+    to
 }
 
-// The path of a key at the front of a text. Its bytes are counted only where the most that they can be does not fit.
+// A path at the front of a text, where there is room for it. Otherwise nothing is written.
 pub(crate) fn put_path(
     journal: &[u8],
     image: &[u8],
     slots: &[u64],
-    used: usize,
-    key: EntryKey,
+    way: &[usize],
+    path: ResolvedPath,
     text: &mut [u8],
 ) -> Behind
-    requires { ⌜ WayAsks (now journal) (now image) (table (now slots) used) [] [] ⌝ }
-    ensures { λ r. ⌜ FrontPromise journal image slots used key text r ⌝ }
+    requires { ⌜ WayAsks (now journal) (now image) (now slots) (now way) (path .names) ⌝ }
+    ensures { λ r. ⌜ FrontPromise journal image slots way path text r ⌝ }
 {
-    let heads = &slots[..0];
-    let nexts = &slots[..0];
-    match put_way(
-        journal,
-        image,
-        slots,
-        used,
-        heads,
-        nexts,
-        key,
-        DEPTH + 1,
-        MOST,
-        0,
-        text,
-        0,
-    ) {
-        Behind::To(to) => Behind::To(to),
-        Behind::Full => put_way(
-            journal,
-            image,
-            slots,
-            used,
-            heads,
-            nexts,
-            key,
-            DEPTH + 1,
-            COUNTED,
-            0,
-            text,
-            0,
-        ),
+    if !path_fits(journal, image, slots, way, path, text.len()) {
+        return Behind::Full;
     }
+    Behind::To(put_way(journal, image, slots, way, path, text, 0))
 }
 
-// The path of an entry by its parent and its own name, behind the first bytes of a text, where there is room for what both are
-// counted for. Otherwise nothing is written.
-fn try_behind(
-    journal: &[u8],
-    image: &[u8],
-    slots: &[u64],
-    used: usize,
-    heads: &[u64],
-    nexts: &[u64],
-    parent: EntryKey,
-    name: NamePlace,
-    counted: bool,
-    text: &mut [u8],
-    at: usize,
-) -> Behind
-    requires { ⌜ WayAsks (now journal) (now image) (table (now slots) used) (now heads) (now nexts) ⌝ }
-    requires { ⌜ (inside (lengthsOf (now journal) (now image)) name ≡ true) × (at ≤ length (now text)) ⌝ }
-    ensures { λ r. ⌜ TryPromise journal image slots used parent name counted text at r ⌝ }
-{
-    match put_way(
-        journal,
-        image,
-        slots,
-        used,
-        heads,
-        nexts,
-        parent,
-        DEPTH + 1,
-        counted,
-        step_room(journal, image, name, counted),
-        text,
-        at,
-    ) {
-        Behind::To(above) => Behind::To(put_step(journal, image, name, text, above)),
-        Behind::Full => Behind::Full,
-    }
-}
-
-// The path of an entry by its parent and its own name, behind the first bytes of a text. Where there is no room for it, nothing is
-// written. Its bytes are counted only where the most that they can be does not fit.
+// The path of an entry, by its parent's and its own name, behind the first bytes of a text, where there is room for it. Otherwise
+// nothing is written.
 pub fn put_behind(
     journal: &[u8],
     image: &[u8],
     slots: &[u64],
-    used: usize,
-    heads: &[u64],
-    nexts: &[u64],
-    parent: EntryKey,
+    way: &[usize],
+    path: ResolvedPath,
     name: NamePlace,
     text: &mut [u8],
     at: usize,
 ) -> Behind
-    requires { ⌜ WayAsks (now journal) (now image) (table (now slots) used) (now heads) (now nexts) ⌝ }
+    requires { ⌜ WayAsks (now journal) (now image) (now slots) (now way) (path .names) ⌝ }
     requires { ⌜ (inside (lengthsOf (now journal) (now image)) name ≡ true) × (at ≤ length (now text)) ⌝ }
-    ensures { λ r. ⌜ BehindPromise journal image slots used parent name text at r ⌝ }
+    ensures { λ r. ⌜ BehindPromise journal image slots way path name text at r ⌝ }
 {
-    match try_behind(
-        journal,
-        image,
-        slots,
-        used,
-        heads,
-        nexts,
-        parent,
-        name,
-        MOST,
-        text,
-        at,
-    ) {
-        Behind::To(to) => Behind::To(to),
-        Behind::Full => try_behind(
-            journal,
-            image,
-            slots,
-            used,
-            heads,
-            nexts,
-            parent,
-            name,
-            COUNTED,
-            text,
-            at,
-        ),
+    if !entry_fits(journal, image, slots, way, path, name, text.len() - at) {
+        return Behind::Full;
     }
+    let above = put_way(journal, image, slots, way, path, text, at);
+    Behind::To(put_step(journal, image, name, text, above))
 }

@@ -251,7 +251,7 @@ fn write_path(journal: &[u8], image: &[u8], words: &[u8], used: usize, slots: &[
 fn write_name(journal: &[u8], image: &[u8], words: &[u8]) {
     let mut text = [0u8; 8192];
     let source = le_u64(words, 0);
-    match path::decode(
+    match path_text::decode(
         journal,
         image,
         source,

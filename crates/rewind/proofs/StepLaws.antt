@@ -20,9 +20,10 @@ use Rattle.entry_slots.proofs.IndexLaws.{none-indexed}
 use Rattle.chain.specs.Settings.{depth}
 use Rattle.chain.specs.declared.ResolvedPath.{ResolvedPath}
 use Rattle.chain.specs.Chain.{chainOf, resolved}
+use Rattle.chain.specs.Way.{Slots, placesOf}
 use Rattle.chain.specs.Tracing.{listed}
-use Rattle.path.specs.Telling.{withText}
-use Rattle.path.proofs.CallLaws.{text-fits}
+use Rattle.path_text.specs.Decoding.{withText}
+use Rattle.path_text.proofs.CallLaws.{text-fits}
 use Rattle.additions.specs.Entries.{forward}
 use Rattle.rewind_records.specs.Environment.{Environment, environmentOf, entriesOf, refusalOf}
 use Rattle.additions.specs.Walking.{recordsIn, offsetIn, entryIn}
@@ -103,8 +104,8 @@ module _ (journal image l words : List ℕ) (r : Rewind) where
   ComesText x y = ComesTo (told journal image l words r (length y)) x y
 
   -- what making a step at the front of a text leaves, where it comes to o
-  abbrev Out : List ℕ → ℕ → List ℕ → Made → List ℕ → List ℕ → List ℕ → List ℕ → Outcome (Next Step) → Type 0
-  Out text m nexts v f h n x o = StepLeaves journal image 0 m nexts text o t v f h n x
+  abbrev Out : List ℕ → ℕ → List ℕ → Made → List ℕ → List ℕ → List ℕ → List ℕ → List ℕ → Outcome (Next Step) → Type 0
+  Out text m nexts v f h n way x o = StepLeaves journal image 0 m nexts text o t v f h n way x
 
   refuses : (x : List ℕ) {n : ℕ} → stepped journal image l words r ≡ refused n → ComesChain x (record { next = chained.Refused n; rewind = r }) words x
   refuses x e = record { answer = rw e; state = rw e; forward = rw e; places = rw e }
@@ -160,8 +161,8 @@ module _ (journal image l words : List ℕ) (r : Rewind) where
               cond-cases P (ltb room (length (recordText journal image (stepOf depth d v)))) (λ _. none textFull) (λ h. some v f (ltb-false room (length (recordText journal image (stepOf depth d v))) h))
 
       -- what making it asks, with no index
-      pub made-asks : (text : List ℕ) → StepAsks journal image t [] [] (d .info .name) 0 text
-      made-asks text =
+      pub made-asks : (way text : List ℕ) → depth + 1 ≤ length way → StepAsks journal image t [] [] (d .info .name) way 0 text
+      made-asks way text levels =
           let w = record-next in
           record {
             fits = w .tests .fits;
@@ -171,62 +172,59 @@ module _ (journal image l words : List ℕ) (r : Rewind) where
             near-journal = w .tests .journal;
             near-image = w .tests .image;
             own = w .own;
+            levels = levels;
             room = omega arith;
           }
 
       -- and what it leaves
-      module _ (list text : List ℕ) {m : ℕ} {nexts h n : List ℕ} {v : Made} {f x : List ℕ} (c : Out text m nexts v f h n x (making journal image t d (length text - 0))) where
-        by-made : (P : Outcome (Next Step) → Type 0) → ((k : ℕ) → Out text m nexts v f h n x (refused k) → P (refused k))
+      module _ (list text : List ℕ) {m : ℕ} {nexts h n : List ℕ} {v : Made} {f way x : List ℕ} (c : Out text m nexts v f h n way x (making journal image t d (length text - 0))) where
+        by-made : (P : Outcome (Next Step) → Type 0) → ((k : ℕ) → Out text m nexts v f h n way x (refused k) → P (refused k))
             → ((u : Table) → adding t (forward d ∷ []) ≡ answered u → length (recordText journal image (stepOf depth d u)) ≤ length text
-            → Out text m nexts v f h n x (answered (next (stepOf depth d u))) → P (answered (next (stepOf depth d u))))
+            → Out text m nexts v f h n way x (answered (next (stepOf depth d u))) → P (answered (next (stepOf depth d u))))
             → P (told journal image l words r (length text))
         by-made P none some =
             let k : length text - 0 ≡ length text = omega arith in
-            let w : Out text m nexts v f h n x (making journal image t d (length text)) = rw k at c in
-            rw (told-making (length text)) (making-cases (λ o. Out text m nexts v f h n x o → P o) (length text) none some w)
+            let w : Out text m nexts v f h n way x (making journal image t d (length text)) = rw k at c in
+            rw (told-making (length text)) (making-cases (λ o. Out text m nexts v f h n way x o → P o) (length text) none some w)
 
         pub made-refused : {k : ℕ} → v ≡ Refused k → ComesText list text (record { next = path.Refused k; rewind = r }) f list x
         made-refused {k} y =
             by-made (λ o. ComesTo o list text (record { next = path.Refused k; rewind = r }) f list x)
             (λ j w. let both : Refused k ≡ Refused j = sym y ∙ w .answer in let same : k ≡ j = cc in record { answer = ap refused same; state = refl; forward = w .forward; places = refl; written = w .text-is })
-            (λ u e fits w. let both : Refused k ≡ To (0 + length (recordText journal image (stepOf depth d u))) (u .used) = sym y ∙ w .answer in let z : _≡_ {A = ℕ} 0 1 = cc in absurd (omega arith))
+            (λ u e fits w. let both : Refused k ≡ To (0 + length (recordText journal image (stepOf depth d u))) (u .used) (resolved (chainOf u depth (d .info .parent))) = sym y ∙ w .answer in let z : _≡_ {A = ℕ} 0 1 = cc in absurd (omega arith))
 
         pub made-end : v ≡ End → ComesText list text (record { next = path.End; rewind = r }) f list x
         made-end y =
             by-made (λ o. ComesTo o list text (record { next = path.End; rewind = r }) f list x)
             (λ j w. let both : End ≡ Refused j = sym y ∙ w .answer in let z : _≡_ {A = ℕ} 0 1 = cc in absurd (omega arith))
-            (λ u e fits w. let both : End ≡ To (0 + length (recordText journal image (stepOf depth d u))) (u .used) = sym y ∙ w .answer in let z : _≡_ {A = ℕ} 0 1 = cc in absurd (omega arith))
+            (λ u e fits w. let both : End ≡ To (0 + length (recordText journal image (stepOf depth d u))) (u .used) (resolved (chainOf u depth (d .info .parent))) = sym y ∙ w .answer in let z : _≡_ {A = ℕ} 0 1 = cc in absurd (omega arith))
 
-        module _ {at used : ℕ} (y : v ≡ To at used) where
-          pub made-fits : used * stride ≤ length f
-          made-fits =
-              by-made (λ o. used * stride ≤ length f)
-              (λ j w. let both : To at used ≡ Refused j = sym y ∙ w .answer in let z : _≡_ {A = ℕ} 0 1 = cc in absurd (omega arith))
+        module _ {at used : ℕ} {p : ResolvedPath} (y : v ≡ To at used p) where
+          pub made-slots : Slots f way (p .names)
+          made-slots =
+              by-made (λ o. Slots f way (p .names))
+              (λ j w. let both : To at used p ≡ Refused j = sym y ∙ w .answer in let z : _≡_ {A = ℕ} 0 1 = cc in absurd (omega arith))
               (λ u e fits w.
-              let both : To at used ≡ To (0 + length (recordText journal image (stepOf depth d u))) (u .used) = sym y ∙ w .answer in
-              let same : used ≡ u .used = cc in
-              let a = adding-added t (forward d) e in
-              let room : u .used ≤ slotsIn (u .words) = rw (← a .leaves) at (added-fits t (forward d) (a .room)) in
-              omega (arith, ap length (w .forward)))
+              let both : To at used p ≡ To (0 + length (recordText journal image (stepOf depth d u))) (u .used) (resolved (chainOf u depth (d .info .parent))) = sym y ∙ w .answer in
+              let same : p ≡ resolved (chainOf u depth (d .info .parent)) = cc in
+              rw (same, w .forward) (w .way-is .0))
 
-          pub made-to : {p : ResolvedPath} {q : List ℕ} → p ≡ resolved (chainOf (table f used) depth (d .info .parent))
-              → q ≡ listed list (chainOf (table f used) depth (d .info .parent) .places)
+          pub made-to : {q : List ℕ} → q ≡ listed list (placesOf f way (p .names))
               → ComesText list text (record { next = path.Record p at; rewind = record { used = used; position = r .position + 1 } }) f q x
-          made-to {p} {q} ep eq =
+          made-to {q} eq =
               by-made (λ o. ComesTo o list text (record { next = path.Record p at; rewind = record { used = used; position = r .position + 1 } }) f q x)
-              (λ j w. let both : To at used ≡ Refused j = sym y ∙ w .answer in let z : _≡_ {A = ℕ} 0 1 = cc in absurd (omega arith))
+              (λ j w. let both : To at used p ≡ Refused j = sym y ∙ w .answer in let z : _≡_ {A = ℕ} 0 1 = cc in absurd (omega arith))
               (λ u e fits w.
-              let both : To at used ≡ To (0 + length (recordText journal image (stepOf depth d u))) (u .used) = sym y ∙ w .answer in
+              let both : To at used p ≡ To (0 + length (recordText journal image (stepOf depth d u))) (u .used) (resolved (chainOf u depth (d .info .parent))) = sym y ∙ w .answer in
               let same : used ≡ u .used = cc in
               let ends : at ≡ 0 + length (recordText journal image (stepOf depth d u)) = cc in
               let long : at ≡ length (recordText journal image (stepOf depth d u)) = omega (arith, ends) in
-              let whole : table f used ≡ u = λ i. record { words = w .forward i; used = same i } in
-              let way : p ≡ resolved (chainOf u depth (d .info .parent)) = rw whole at ep in
+              let path-is : p ≡ resolved (chainOf u depth (d .info .parent)) = cc in
               record {
-                answer = λ i. answered (next (record { path = way i; text = long i }));
+                answer = λ i. answered (next (record { path = path-is i; text = long i }));
                 state = λ i. record { used = same i; position = r .position + 1 };
                 forward = w .forward;
-                places = rw whole at eq;
+                places = eq ∙ ap (listed list) (rw (path-is, w .forward) (w .way-is .1));
                 written = w .text-is ∙ sets-front text (recordText journal image (stepOf depth d u)) fits;
               })
 

@@ -4,7 +4,8 @@ use mathlib.Core.List.{List}
 use lib.ListN.{length}
 use Rattle.walk.specs.Outcome.{Outcome, refused, answered, mapOutcome}
 use Rattle.chain.specs.Chain.{resolved}
-use Rattle.path.specs.Telling.{Told, withText}
+use Rattle.path_text.specs.Decoding.{withText}
+use Rattle.path.specs.Telling.{Told}
 use Rattle.rewind_records.specs.Turning.{Next, ended, next, mapNext}
 use Rattle.rewind_steps.specs.Taking.{Step}
 use Rattle.rewind_steps.specs.Telling.{recordText, nextText}

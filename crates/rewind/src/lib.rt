@@ -16,7 +16,9 @@ ghost use Rattle.rewind.specs.Promise.{StartPromise, StartIndexedPromise
 use crate::start::begin;
 use additions::entries::replaces_forward;
 use chain::ResolvedPath;
-use chain::places::list_chain;
+use chain::way::LEVELS;
+use chain::way::list_chain;
+use chain::way::list_places;
 use entry_slots::links::is_enough;
 use entry_slots::slots::STRIDE;
 use entry_table::Stored;
@@ -24,6 +26,7 @@ use entry_table::adding::add;
 use rewind_records::turn::Turn;
 use rewind_records::turn::next_record;
 use rewind_steps::Made;
+use rewind_steps::Stand;
 use rewind_steps::make_step;
 
 // A rewind under way: how many slots of the forward table are used, and how many records are behind.
@@ -159,20 +162,24 @@ pub fn rewind_next(
         Turn::Entry(entry) => {
             let mut heads: [u64; 0] = [];
             let mut nexts: [u64; 0] = [];
+            let mut way: [usize; LEVELS] = [0; LEVELS];
+            let stand = Stand {
+                used: rewind.used,
+                at: 0,
+            };
             match make_step(
                 journal,
                 image,
                 entry,
-                rewind.used,
+                stand,
                 forward,
                 &mut heads,
                 &mut nexts,
+                &mut way,
                 text,
-                0,
             ) {
-                Made::To { at: n, used } => {
-                    let info = entry.info;
-                    let path = list_chain(forward, used, info.parent, list);
+                Made::To { at: n, used, path } => {
+                    list_places(forward, &way, path.names, list);
                     PathStep {
                         next: NextPath::Record { path, text: n },
                         rewind: Rewind {

@@ -13,6 +13,7 @@ use Rattle.entry_slots.specs.Slots.{slotsIn}
 use Rattle.entry_slots.specs.Table.{Table, table}
 use Rattle.entry_slots.specs.Index.{headsOf, nextsOf}
 use Rattle.entry_table.proofs.SeedLaws.{heads-long, nexts-long, index-again, index-then}
+use Rattle.chain.specs.declared.ResolvedPath.{ResolvedPath}
 use Rattle.rewind_records.specs.Environment.{environmentOf, refusalOf}
 use Rattle.additions.specs.Walking.{recordsIn}
 use Rattle.rewind_records.specs.Turning.{Next, ended, next}
@@ -67,7 +68,7 @@ module _ (journal image : List ℕ) (at : ℕ) where
   refused-of (answered ended) e = let z : _≡_ {A = ℕ} 0 1 = cc in absurd (omega arith)
   refused-of (answered (next x)) e = let z : _≡_ {A = ℕ} 0 1 = cc in absurd (omega arith)
 
-  next-of : {A : Type 0} {to k : ℕ} (o : Outcome (Next Step)) → To to k ≡ madeOf journal image at o
+  next-of : {A : Type 0} {to k : ℕ} {p : ResolvedPath} (o : Outcome (Next Step)) → To to k p ≡ madeOf journal image at o
       → ((x : Step) → o ≡ answered (next x) → to ≡ at + length (recordText journal image x) → k ≡ x .table .used → A) → A
   next-of (refused n) e f = let z : _≡_ {A = ℕ} 0 1 = cc in absurd (omega arith)
   next-of (answered ended) e f = let z : _≡_ {A = ℕ} 0 1 = cc in absurd (omega arith)
@@ -198,14 +199,14 @@ module _ (journal image records words₀ : List ℕ) (r₀ : Rewind) (heads₀ n
       turned e = sym turns ∙ ap (onward (running journal image records room rest) journal image now) e
 
       -- by what the step answers
-      pub going-end : {a : Made} {f h n x : List ℕ} → a ≡ End → StepLeaves journal image at (length heads) nexts text o (table words used) a f h n x
+      pub going-end : {a : Made} {f h n way x : List ℕ} → a ≡ End → StepLeaves journal image at (length heads) nexts text o (table words used) a f h n way x
           → Runs (record { steps = i; refusal = 0; rewind = stateOf used position }) f h n ends x
       going-end g c =
           let e : o ≡ answered ended = ended-of journal image at o (sym g ∙ c .answer) in
           let d = rw e at c in
           over 0 (turned e) (d .forward) (d .heads-are) (d .nexts-are) (d .text-is)
 
-      pub going-refused : {a : Made} {k : ℕ} {f h n x : List ℕ} → a ≡ Refused k → StepLeaves journal image at (length heads) nexts text o (table words used) a f h n x
+      pub going-refused : {a : Made} {k : ℕ} {f h n way x : List ℕ} → a ≡ Refused k → StepLeaves journal image at (length heads) nexts text o (table words used) a f h n way x
           → Runs (record { steps = i; refusal = k; rewind = stateOf used position }) f h n ends x
       going-refused {k = k} g c =
           let e : o ≡ refused k = refused-of journal image at o (sym g ∙ c .answer) in
@@ -247,12 +248,12 @@ module _ (journal image records words₀ : List ℕ) (r₀ : Rewind) (heads₀ n
               wide = λ p. omega (arith, w .wide p, made .long);
             }
 
-      pub going-made : {a : Made} {to k : ℕ} {f h n y : List ℕ} → a ≡ To to k → StepLeaves journal image at (length heads) nexts text o (table words used) a f h n y
+      pub going-made : {a : Made} {to k : ℕ} {p : ResolvedPath} {f h n way y : List ℕ} → a ≡ To to k p → StepLeaves journal image at (length heads) nexts text o (table words used) a f h n way y
           → Going f h n (set ends i to) y k (position + 1) to (i + 1)
       going-made g c =
           next-of journal image at o (sym g ∙ c .answer)
           (λ x e eto ek. let d = rw e at c in rw (d .forward, ek) (from-made e eto (d .heads-are) (d .nexts-are) (d .text-is)))
 
       -- the position is below the records
-      pub going-near : {a : Made} {to k : ℕ} → a ≡ To to k → a ≡ madeOf journal image at o → position < recordsIn records
+      pub going-near : {a : Made} {to k : ℕ} {p : ResolvedPath} → a ≡ To to k p → a ≡ madeOf journal image at o → position < recordsIn records
       going-near g q = next-of journal image at o (sym g ∙ q) (λ x e eto ek. made e .near)

@@ -16,8 +16,8 @@ use Rattle.additions.proofs.OneLaws.{Added, adding-added, added-fits, names-add
 use Rattle.additions.proofs.KeptLaws.{add-keeps}
 use Rattle.entry_slots.specs.Index.{Indexed}
 use Rattle.chain.specs.Settings.{depth}
-use Rattle.path.specs.Telling.{withText}
-use Rattle.path.proofs.CallLaws.{text-fits}
+use Rattle.path_text.specs.Decoding.{withText}
+use Rattle.path_text.proofs.CallLaws.{text-fits}
 use Rattle.additions.specs.Entries.{forward}
 use Rattle.rewind_records.specs.Environment.{Environment, environmentOf, refusalOf}
 use Rattle.additions.specs.Walking.{recordsIn, offsetIn, entryIn}
@@ -52,9 +52,9 @@ module _ (journal image l words : List ℕ) (used position : ℕ) (pass : refusa
       let o : stepped journal image l words (stateOf used position) ≡ answered ended = rw e in
       text-fits (nextText journal image) room o (omega arith)
 
-  pub step-end : (at : ℕ) (heads nexts text : List ℕ) → Indexed t heads nexts → recordsIn l ≤ position
-      → StepLeaves journal image at (length heads) nexts text (told journal image l words (stateOf used position) (length text - at)) t End words heads nexts text
-  step-end at heads nexts text index k = rw (told-end (length text - at) k) (record { answer = refl; forward = refl; heads-are = index .0; nexts-are = index .1; text-is = refl })
+  pub step-end : (at : ℕ) (heads nexts text : List ℕ) {way : List ℕ} → Indexed t heads nexts → recordsIn l ≤ position
+      → StepLeaves journal image at (length heads) nexts text (told journal image l words (stateOf used position) (length text - at)) t End words heads nexts way text
+  step-end at heads nexts text index k = rw (told-end (length text - at) k) (record { answer = refl; forward = refl; heads-are = index .0; nexts-are = index .1; way-is = tt; text-is = refl })
 
   module _ {e : RecordEntry} (near : position < recordsIn l) (is : e ≡ entryIn journal l position) where
     -- the next record is the one at the position, and its name is inside
@@ -66,9 +66,9 @@ module _ (journal image l words : List ℕ) (used position : ℕ) (pass : refusa
     pub own-inside : inside (lengthsOf journal image) (e .info .name) ≡ true
     own-inside = rw is (entry-inside journal (length image) (offsetIn l position) (number-answered journal l (tests .records) near))
 
-    pub step-next : (at : ℕ) (heads nexts text : List ℕ) {r : Made} {f h n x : List ℕ}
-        → StepLeaves journal image at (length heads) nexts text (making journal image t e (length text - at)) t r f h n x
-        → StepLeaves journal image at (length heads) nexts text (told journal image l words (stateOf used position) (length text - at)) t r f h n x
+    pub step-next : (at : ℕ) (heads nexts text : List ℕ) {r : Made} {f h n way x : List ℕ}
+        → StepLeaves journal image at (length heads) nexts text (making journal image t e (length text - at)) t r f h n way x
+        → StepLeaves journal image at (length heads) nexts text (told journal image l words (stateOf used position) (length text - at)) t r f h n way x
     step-next at heads nexts text c = rw (told-next (length text - at)) c
 
   -- what holds of a step that is made

@@ -6,16 +6,16 @@ use lib.ListN.{length}
 use Rattle.walk.specs.Lent.{Lent, before, after}
 use Rattle.walk.specs.Lists.{overwrite}
 use Rattle.entry_slots.specs.Slots.{slotsIn}
-use Rattle.entry_slots.specs.Table.{table}
 use Rattle.entry_slots.specs.Index.{headsOf, nextsOf, Indexed}
 use Rattle.rewind_records.specs.Environment.{environmentOf, refusalOf}
-use Rattle.rewind.specs.Stepping.{forwardTable, stateOf}
+use Rattle.rewind.specs.Stepping.{forwardTable}
 use Rattle.rewind.specs.Telling.{told}
 use Rattle.rewind.specs.declared.Rewind.{Rewind}
 use Rattle.rewind_steps.specs.Promise.{StepPromise}
 use Rattle.rewind_run.specs.Running.{Run, ran, runAnswer, runTable}
 use Rattle.rewind_run.specs.declared.RewindRun.{RewindRun}
 use Rattle.rewind_steps.specs.declared.Made.{Made}
+use Rattle.rewind_run.specs.declared.steps.Standing.{Standing}
 use mathlib.Core.Bool.{Bool}
 use Rattle.rewind_run.specs.Indexing.{indexes, headsRun, nextsRun}
 
@@ -26,9 +26,10 @@ pub record RunAsks (journal image records words : List ℕ) (rewind : Rewind) (h
   pub wide : 0 < length heads → slotsIn words ≤ length nexts
 
 -- the next step of a run
-abbrev pub RunStepPromise : Lent → Lent → Lent → Lent → Lent → Lent → ℕ → Lent → ℕ → ℕ → Made → Type 0
-RunStepPromise journal image forward heads nexts text at records used position =
-    StepPromise journal image forward heads nexts text at (told (before journal) (before image) (before records) (before forward) (stateOf used position) (length (before text) - at)) (table (before forward) used)
+abbrev pub RunStepPromise : Lent → Lent → Lent → Lent → Lent → Lent → Lent → Lent → Standing → Made → Type 0
+RunStepPromise journal image forward heads nexts way text records standing =
+    let o = told (before journal) (before image) (before records) (before forward) (standing .rewind) (length (before text) - standing .at) in
+    StepPromise journal image forward heads nexts way text (standing .at) o (forwardTable (before forward) (standing .rewind))
 
 -- many steps: what they come to, and what is left of them where the tests have passed
 module _ (journal image records words : List ℕ) (rewind : Rewind) (heads nexts ends text : List ℕ) where

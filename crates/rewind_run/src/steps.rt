@@ -2,39 +2,62 @@
 //
 // The functions here ask for tests that have passed and for an index that is the table's, and keep both. Heads of length 0 are no
 // index.
-ghost use Prim.Native.Nat.{_≤_};
+ghost use Prim.Native.Nat.{_+_, _≤_};
 ghost use lib.ListN.{length};
-ghost use Rattle.rewind.specs.Stepping.{stateOf};
+ghost use Rattle.chain.specs.Settings.{depth};
 ghost use Rattle.rewind_run.specs.Promise.{RunStepPromise, RunAsks, StepsPromise};
 use crate::RewindRun;
 use additions::entries::entry_at;
+use chain::way::LEVELS;
 use read_ahead::ahead_of;
 use rewind::Rewind;
 use rewind_steps::Made;
+use rewind_steps::Stand;
 use rewind_steps::make_step;
+
+// Where a run stands: its rewind, and where the text so far ends.
+pub(crate) struct Standing {
+    rewind: Rewind,
+    at: usize,
+}
 
 // The next step, where the tests have passed.
 fn run_step(
     journal: &[u8],
     image: &[u8],
     records: &[usize],
-    used: usize,
-    position: usize,
+    standing: Standing,
     forward: &mut [u64],
     heads: &mut [u64],
     nexts: &mut [u64],
+    way: &mut [usize],
     text: &mut [u8],
-    at: usize,
 ) -> Made
-    requires { ⌜ RunAsks (now journal) (now image) (now records) (now forward) (stateOf used position) (now heads) (now nexts) ⌝ }
-    requires { ⌜ at ≤ length (now text) ⌝ }
-    ensures { λ r. ⌜ RunStepPromise journal image forward heads nexts text at records used position r ⌝ }
+    requires { ⌜ RunAsks (now journal) (now image) (now records) (now forward) (standing .rewind) (now heads) (now nexts) ⌝ }
+    requires { ⌜ (depth + 1 ≤ length (now way)) × (standing .at ≤ length (now text)) ⌝ }
+    ensures { λ r. ⌜ RunStepPromise journal image forward heads nexts way text records standing r ⌝ }
 {
+    let rewind = standing.rewind;
+    let position = rewind.position;
     if records.len() / 2 <= position {
         return Made::End;
     }
     let entry = entry_at(journal, records[position * 2]);
-    make_step(journal, image, entry, used, forward, heads, nexts, text, at)
+    let stand = Stand {
+        used: rewind.used,
+        at: standing.at,
+    };
+    make_step(
+        journal,
+        image,
+        entry,
+        stand,
+        forward,
+        heads,
+        nexts,
+        way,
+        text,
+    )
 }
 
 // As many steps as there are words for the ends of their texts, where the tests have passed.
@@ -57,6 +80,7 @@ pub(crate) fn run(
     let mut at: usize = 0;
     let mut i: usize = 0;
     let mut read: usize = 0;
+    let mut way: [usize; LEVELS] = [0; LEVELS];
     while i < ends.len() {
         read = ahead_of(
             journal,
@@ -68,19 +92,26 @@ pub(crate) fn run(
             heads,
             nexts,
         );
+        let standing = Standing {
+            rewind: Rewind { used, position },
+            at,
+        };
         match run_step(
             journal,
             image,
             records,
-            used,
-            position,
+            standing,
             forward,
             heads,
             nexts,
+            &mut way,
             text,
-            at,
         ) {
-            Made::To { at: to, used: n } => {
+            Made::To {
+                at: to,
+                used: n,
+                ..
+            } => {
                 ends[i] = to as u64;
                 at = to;
                 used = n;

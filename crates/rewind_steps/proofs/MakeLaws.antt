@@ -1,5 +1,5 @@
 -- A step of a run by its ways out: the answer, and what the table, its index and the text then are. Assumes nothing.
-use Prim.Native.Nat.{ℕ, _+_, _-_, _≤_, _<_}
+use Prim.Native.Nat.{ℕ, _+_, _-_, _*_, _≤_, _<_}
 use mathlib.Core.Path.{_≡_, refl, ap, sym, _∙_}
 use mathlib.Core.List.{List, [], _∷_}
 use mathlib.Core.Bool.{Bool, true, false}
@@ -10,7 +10,7 @@ use lib.Dec.{ltb}
 use Rattle.walk.specs.Outcome.{Outcome, refused, answered}
 use Rattle.walk.specs.Refusals.{tableFull, textFull}
 use Rattle.entry_slots.specs.Names.{lengthsOf, inside, allInside}
-use Rattle.entry_slots.specs.Slots.{slotsIn, keyAt, infoAt, putAt, namesIn}
+use Rattle.entry_slots.specs.Slots.{stride, slotsIn, keyAt, infoAt, putAt, namesIn}
 use Rattle.entry_slots.specs.Table.{Table, table, slotFor, Addition}
 use Rattle.additions.specs.Storing.{adding, usedAfter, wordsAfter}
 use Rattle.entry_slots.specs.declared.EntryKey.{EntryKey}
@@ -22,6 +22,12 @@ use Rattle.entry_slots.specs.Index.{headsOf, nextsOf, Indexed, headsAfter, next
 use Rattle.entry_table.proofs.SeedLaws.{heads-long, nexts-long, index-again, index-then}
 use Rattle.chain.specs.Settings.{depth}
 use Rattle.path.specs.Ways.{entryText}
+use Rattle.chain.specs.Chain.{Chain, chainOf}
+use Rattle.chain.specs.Way.{Slots, placesOf, chainBy}
+use Rattle.chain.specs.Promise.{Climbs}
+use Rattle.chain.specs.declared.ResolvedPath.{ResolvedPath}
+use Rattle.chain.proofs.WayLaws.{climbed-resolved, climbed-places, climbed-chain, climbed-slots}
+use Rattle.path.proofs.WayLaws.{climbed-asks}
 use Rattle.path.specs.Promise.{WayAsks, Behinds}
 use Rattle.path.specs.declared.ways.Behind.{Behind}
 use Rattle.path.specs.declared.ways.Behind.the-variants as put
@@ -34,38 +40,46 @@ use Rattle.rewind_steps.specs.Promise.{StepAsks, StepLeaves}
 use Rattle.rewind_steps.specs.declared.Made.{Made}
 use Rattle.rewind_steps.specs.declared.Made.the-variants.{To, Refused}
 
--- what a step asks is enough for its path
-pub tell-asks : {journal image : List ℕ} {t : Table} {heads nexts : List ℕ} {name : NamePlace} {at : ℕ} {text : List ℕ} → StepAsks journal image t heads nexts name at text
-    → WayAsks journal image t heads nexts
-tell-asks asks = record {
-  fits = omega (arith, asks .fits);
-  index = asks .index;
-  wide = λ h. let g = asks .wide h in omega (arith, asks .fits);
-  insides = asks .names;
-  near-journal = asks .near-journal;
-  near-image = asks .near-image;
-}
+-- what a step asks is enough for the way up, and for its text
+pub tell-asks : {journal image : List ℕ} {t : Table} {heads nexts : List ℕ} {name : NamePlace} {way : List ℕ} {at : ℕ} {text : List ℕ}
+    → StepAsks journal image t heads nexts name way at text → t .used * stride ≤ length (t .words)
+tell-asks asks = omega (arith, asks .fits)
+
+pub way-asks : (journal image : List ℕ) {t : Table} {heads nexts : List ℕ} {name : NamePlace} {way : List ℕ} {at : ℕ} {text : List ℕ}
+    → StepAsks journal image t heads nexts name way at text → {c : Chain} {r : ResolvedPath} {way′ : List ℕ} → Climbs t c way 0 r way′
+    → WayAsks journal image (t .words) way′ (r .names)
+way-asks journal image asks g = climbed-asks journal image _ _ _ g (tell-asks asks) (asks .names) (asks .near-journal) (asks .near-image)
 
 -- the text of a record that the table has
-module _ (journal image : List ℕ) (u : Table) (parent : EntryKey) (name : NamePlace) (text : List ℕ) (at : ℕ) where
+module _ (journal image : List ℕ) (u : Table) (parent : EntryKey) (name : NamePlace) (text : List ℕ) (at : ℕ) {way way′ : List ℕ} {p : ResolvedPath}
+    (up : Climbs u (chainOf u depth parent) way 0 p way′) (fits : u .used * stride ≤ length (u .words)) where
   abbrev step : Step
   step = stepWith depth parent name u
 
   abbrev more : List ℕ
-  more = entryText journal image u parent name
+  more = entryText journal image (chainOf u depth parent) name
+
+  slots : Slots (u .words) way′ (length (chainOf u depth parent .places))
+  slots = rw (climbed-resolved u (chainOf u depth parent) way up) at (climbed-slots u (chainOf u depth parent) way up fits)
+
+  names-are : placesOf (u .words) way′ (length (chainOf u depth parent .places)) ≡ chainOf u depth parent .places
+  names-are = rw (climbed-resolved u (chainOf u depth parent) way up) at (climbed-places u (chainOf u depth parent) way up)
 
   same-text : more ≡ recordText journal image step
   unfolding entryText recordText
   same-text = refl
 
-  module _ (m : ℕ) (nexts : List ℕ) (t : Table) {v : Behind} {y : List ℕ} (g : Behinds more text at v y) where
-    abbrev Tells : Made → List ℕ → List ℕ → List ℕ → List ℕ → Type 0
+  module _ (m : ℕ) (nexts : List ℕ) (t : Table) {v : Behind} {y : List ℕ} (told : Behinds (entryText journal image (chainBy (u .words) way′ p) name) text at v y) where
+    g : Behinds more text at v y
+    g = rw (climbed-chain u (chainOf u depth parent) way up) at told
+
+    abbrev Tells : Made → List ℕ → List ℕ → List ℕ → List ℕ → List ℕ → Type 0
     Tells = StepLeaves journal image at m nexts text (telling journal image u parent name (length text - at)) t
 
-    pub tell-to : {to : ℕ} {h n : List ℕ} → v ≡ put.To to → h ≡ headsOf m u → n ≡ nextsOf m u nexts → Tells (To to (u .used)) (u .words) h n y
+    pub tell-to : {to : ℕ} {h n : List ℕ} → v ≡ put.To to → h ≡ headsOf m u → n ≡ nextsOf m u nexts → Tells (To to (u .used) p) (u .words) h n way′ y
     tell-to {to} {h} {n} f eh en = go (ltb (length text - at) (length more)) refl
       where
-        go : (b : Bool) → ltb (length text - at) (length more) ≡ b → Tells (To to (u .used)) (u .words) h n y
+        go : (b : Bool) → ltb (length text - at) (length more) ≡ b → Tells (To to (u .used) p) (u .words) h n way′ y
         go true l = let z : put.To to ≡ put.Full = sym f ∙ g .answer ∙ rw l in let z : _≡_ {A = ℕ} 0 1 = cc in absurd (omega arith)
         go false l =
             let l′ : ltb (length text - at) (length (recordText journal image step)) ≡ false = rw (← same-text) l in
@@ -75,21 +89,22 @@ module _ (journal image : List ℕ) (u : Table) (parent : EntryKey) (name : Name
             let text-is : y ≡ sets text at more = g .written ∙ rw l in
             rw l′
             (record {
-              answer = ap (λ (i : ℕ). To i (u .used)) to-is;
+              answer = λ i. To (to-is i) (u .used) (climbed-resolved u (chainOf u depth parent) way up i);
               forward = refl;
               heads-are = eh;
               nexts-are = en;
+              way-is = (slots, names-are);
               text-is = text-is ∙ ap (sets text at) same-text;
             })
 
-    pub tell-full : {f h n : List ℕ} → v ≡ put.Full → f ≡ t .words → h ≡ headsOf m t → n ≡ nextsOf m t nexts → Tells (Refused textFull) f h n y
+    pub tell-full : {f h n : List ℕ} → v ≡ put.Full → f ≡ t .words → h ≡ headsOf m t → n ≡ nextsOf m t nexts → Tells (Refused textFull) f h n way′ y
     tell-full {f} {h} {n} e ef eh en = go (ltb (length text - at) (length more)) refl
       where
-        go : (b : Bool) → ltb (length text - at) (length more) ≡ b → Tells (Refused textFull) f h n y
+        go : (b : Bool) → ltb (length text - at) (length more) ≡ b → Tells (Refused textFull) f h n way′ y
         go true l =
             let l′ : ltb (length text - at) (length (recordText journal image step)) ≡ true = rw (← same-text) l in
             let text-is : y ≡ text = g .written ∙ rw l in
-            rw l′ (record { answer = refl; forward = ef; heads-are = eh; nexts-are = en; text-is = text-is })
+            rw l′ (record { answer = refl; forward = ef; heads-are = eh; nexts-are = en; way-is = tt; text-is = text-is })
         go false l =
             let z : put.Full ≡ put.To (at + length more) = sym e ∙ g .answer ∙ rw l in
             let z : _≡_ {A = ℕ} 0 1 = cc in
@@ -97,21 +112,21 @@ module _ (journal image : List ℕ) (u : Table) (parent : EntryKey) (name : Name
 
 -- a step with the record that is next
 module _ (journal image : List ℕ) (t : Table) (e : RecordEntry) (text : List ℕ) (at : ℕ) (heads nexts : List ℕ) where
-  abbrev Makes : Made → List ℕ → List ℕ → List ℕ → List ℕ → Type 0
+  abbrev Makes : Made → List ℕ → List ℕ → List ℕ → List ℕ → List ℕ → Type 0
   Makes = StepLeaves journal image at (length heads) nexts text (making journal image t e (length text - at)) t
 
   module _ (fits : t .used ≤ slotsIn (t .words)) (index : Indexed t heads nexts) where
     -- nothing is changed where no slot is left
-    full : {k : ℕ} → adding t (forward e ∷ []) ≡ refused k → Makes (Refused k) (t .words) heads nexts text
-    full g = rw g (record { answer = refl; forward = refl; heads-are = index .0; nexts-are = index .1; text-is = refl })
+    full : {k : ℕ} {way : List ℕ} → adding t (forward e ∷ []) ≡ refused k → Makes (Refused k) (t .words) heads nexts way text
+    full g = rw g (record { answer = refl; forward = refl; heads-are = index .0; nexts-are = index .1; way-is = tt; text-is = refl })
 
-    pub make-none : {slot : ℕ} → slot ≡ slotFor t (e .key) → slotsIn (t .words) ≤ slot → Makes (Refused tableFull) (t .words) heads nexts text
+    pub make-none : {slot : ℕ} {way : List ℕ} → slot ≡ slotFor t (e .key) → slotsIn (t .words) ≤ slot → Makes (Refused tableFull) (t .words) heads nexts way text
     make-none q h = full (slot-full t (forward e) fits (rw q at h))
 
     module _ {a : Addition} {o : Outcome ℕ} {s h n : List ℕ} (q : a ≡ forward e) (x : o ≡ usedAfter (adding t (a ∷ [])))
         (z : s ≡ wordsAfter (adding t (a ∷ [])) (t .words)) (zh : h ≡ headsAfter (adding t (a ∷ [])) heads)
         (zn : n ≡ nextsAfter (length heads) (adding t (a ∷ [])) nexts) where
-      pub make-refused : {k : ℕ} → o ≡ refused k → Makes (Refused k) s h n text
+      pub make-refused : {k : ℕ} {way : List ℕ} → o ≡ refused k → Makes (Refused k) s h n way text
       make-refused {k} y =
           let f : adding t (a ∷ []) ≡ refused k = added-none t a x z y .0 in
           let eh : h ≡ heads = zh ∙ ap (λ (p : Outcome Table). headsAfter p heads) f in
@@ -155,8 +170,8 @@ module _ (journal image : List ℕ) (t : Table) (e : RecordEntry) (text : List �
         after-inside old own =
             rw (← w .leaves) at (names-added t a (w .room) (lengthsOf journal image) old (rw q own))
 
-        pub make-asks : {slot : ℕ} → slot < slotsIn (t .words) → StepAsks journal image t heads nexts (e .info .name) at text
-            → StepAsks journal image (table s k) h n (e .info .name) at text × ((slot < slotsIn s) × (t .used ≤ slotsIn s))
+        pub make-asks : {slot : ℕ} {way : List ℕ} → slot < slotsIn (t .words) → StepAsks journal image t heads nexts (e .info .name) way at text
+            → StepAsks journal image (table s k) h n (e .info .name) way at text × ((slot < slotsIn s) × (t .used ≤ slotsIn s))
         make-asks g asks = (
           record {
             fits = after-fits;
@@ -166,6 +181,7 @@ module _ (journal image : List ℕ) (t : Table) (e : RecordEntry) (text : List �
             near-journal = asks .near-journal;
             near-image = asks .near-image;
             own = asks .own;
+            levels = asks .levels;
             room = asks .room;
           },
           (after-slot g, after-old),
@@ -179,12 +195,12 @@ module _ (journal image : List ℕ) (t : Table) (e : RecordEntry) (text : List �
             λ i. record { words = same i; used = t .used }
 
         pub make-told : {slot : ℕ} {key : EntryKey} {info : EntryInfo} → slot ≡ slotFor t (e .key) → key ≡ keyAt (t .words) slot → info ≡ infoAt (t .words) slot
-            → {r : Made} {f′ h′ n′ x′ : List ℕ}
-            → StepLeaves journal image at (length h) n text (telling journal image (table s k) (e .info .parent) (e .info .name) (length text - at)) (table (putAt s slot key info) (t .used)) r f′ h′ n′ x′
-            → Makes r f′ h′ n′ x′
+            → {r : Made} {f′ h′ n′ w′ x′ : List ℕ}
+            → StepLeaves journal image at (length h) n text (telling journal image (table s k) (e .info .parent) (e .info .name) (length text - at)) (table (putAt s slot key info) (t .used)) r f′ h′ n′ w′ x′
+            → Makes r f′ h′ n′ w′ x′
         make-told qs qk qi c =
             let o′ = telling journal image (table s k) (e .info .parent) (e .info .name) (length text - at) in
             let goes′ : adding t (forward e ∷ []) ≡ answered (table s k) = rw (← q) goes in
             let c′ = rw (back qs qk qi) at c in
             let both = index-then (length heads) (table s k) nexts heads-are nexts-are {u = tableAfter o′ t} {o = answered (tableAfter o′ t)} refl (c′ .heads-are) (c′ .nexts-are) in
-            rw goes′ (record { answer = c′ .answer; forward = c′ .forward; heads-are = both .0; nexts-are = both .1; text-is = c′ .text-is })
+            rw goes′ (record { answer = c′ .answer; forward = c′ .forward; heads-are = both .0; nexts-are = both .1; way-is = c′ .way-is; text-is = c′ .text-is })

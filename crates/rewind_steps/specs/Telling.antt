@@ -3,8 +3,8 @@
 use Prim.Native.Nat.{ℕ}
 use mathlib.Core.List.{List, [], _++_}
 use Rattle.walk.specs.Outcome.{Outcome, answered}
-use Rattle.path.specs.Text.{pathText, stepText}
-use Rattle.path.specs.Telling.{withText}
+use Rattle.path_text.specs.Text.{pathText, stepText}
+use Rattle.path_text.specs.Decoding.{withText}
 use Rattle.entry_slots.specs.Table.{Table}
 use Rattle.entry_slots.specs.declared.EntryKey.{EntryKey}
 use Rattle.entry_slots.specs.declared.NamePlace.{NamePlace}

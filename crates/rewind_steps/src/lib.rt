@@ -1,13 +1,17 @@
 // A step of a rewind with text: the next record goes into the forward table, and its path behind the first bytes of a text.
 //
 // Every function here is proved. They are helpers of our own crates: they ask for tests that have passed and for an index that is
-// the table's, and keep both. Heads of length 0 are no index.
+// the table's, and keep both. Heads of length 0 are no index. The way is lent for the slots that a path goes by; what it holds before
+// is of no account.
 ghost use Prim.Native.Nat.{_≤_, _<_};
 ghost use Rattle.entry_slots.specs.Slots.{slotsIn};
 ghost use Rattle.entry_slots.specs.Table.{table};
 ghost use Rattle.rewind_steps.specs.Promise.{StepAsks, TellPromise, MakePromise};
 use additions::entries::RecordEntry;
 use additions::entries::replaces_forward;
+use chain::ResolvedPath;
+use chain::way::LEVELS;
+use chain::way::climb;
 use entry_slots::EntryInfo;
 use entry_slots::EntryKey;
 use entry_slots::links::build;
@@ -24,9 +28,20 @@ use path::ways::put_behind;
 use walk::TABLE_FULL;
 use walk::TEXT_FULL;
 
-// What a step comes to: where its text ends and how many slots are used then, that no record is left, or a refusal's number.
+// Where a rewind stands: how many slots of the forward table are used, and where the text so far ends.
+pub struct Stand {
+    pub used: usize,
+    pub at: usize,
+}
+
+// What a step comes to: where its text ends and how many slots are used then, with the names and the end of its parent's path, whose
+// slots the way has; that no record is left; or a refusal's number.
 pub enum Made {
-    To { at: usize, used: usize },
+    To {
+        at: usize,
+        used: usize,
+        path: ResolvedPath,
+    },
     End,
     Refused(u32),
 }
@@ -39,37 +54,56 @@ pub(crate) struct Held {
     used: usize,
 }
 
+// A record that is in the table: what it says, and what the table held before.
+pub(crate) struct Entered {
+    info: EntryInfo,
+    held: Held,
+}
+
 // The text of a record that the table has, by its parent and its own name. Where there is no room for it, what stood in the
 // record's slot is put back, and as many slots are used as before.
 fn tell(
     journal: &[u8],
     image: &[u8],
+    entered: Entered,
+    stand: Stand,
     forward: &mut [u64],
-    used: usize,
     heads: &mut [u64],
     nexts: &mut [u64],
-    info: EntryInfo,
-    held: Held,
+    way: &mut [usize],
     text: &mut [u8],
-    at: usize,
 ) -> Made
-    requires { ⌜ StepAsks (now journal) (now image) (table (now forward) used) (now heads) (now nexts) (info .name) at (now text) ⌝ }
-    requires { ⌜ (held .slot < slotsIn (now forward)) × (held .used ≤ slotsIn (now forward)) ⌝ }
-    ensures { λ r. ⌜ TellPromise journal image forward heads nexts text at used info held r ⌝ }
+    requires { ⌜ StepAsks (now journal) (now image) (table (now forward) (stand .used)) (now heads) (now nexts) (entered .info .name) (now way) (stand .at) (now text) ⌝ }
+    requires { ⌜ (entered .held .slot < slotsIn (now forward)) × (entered .held .used ≤ slotsIn (now forward)) ⌝ }
+    ensures { λ r. ⌜ TellPromise journal image forward heads nexts way text (stand .at) (stand .used) entered r ⌝ }
 {
+    let info = entered.info;
+    let held = entered.held;
+    let path = climb(
+        forward,
+        stand.used,
+        heads,
+        nexts,
+        info.parent,
+        LEVELS,
+        way,
+        0,
+    );
     match put_behind(
         journal,
         image,
         forward,
-        used,
-        heads,
-        nexts,
-        info.parent,
+        way,
+        path,
         info.name,
         text,
-        at,
+        stand.at,
     ) {
-        Behind::To(to) => Made::To { at: to, used },
+        Behind::To(to) => Made::To {
+            at: to,
+            used: stand.used,
+            path,
+        },
         Behind::Full => {
             put(forward, held.slot, held.key, held.info);
             build(forward, held.used, heads, nexts);
@@ -83,16 +117,17 @@ pub fn make_step(
     journal: &[u8],
     image: &[u8],
     entry: RecordEntry,
-    used: usize,
+    stand: Stand,
     forward: &mut [u64],
     heads: &mut [u64],
     nexts: &mut [u64],
+    way: &mut [usize],
     text: &mut [u8],
-    at: usize,
 ) -> Made
-    requires { ⌜ StepAsks (now journal) (now image) (table (now forward) used) (now heads) (now nexts) (entry .info .name) at (now text) ⌝ }
-    ensures { λ r. ⌜ MakePromise journal image forward heads nexts text at entry used r ⌝ }
+    requires { ⌜ StepAsks (now journal) (now image) (table (now forward) (stand .used)) (now heads) (now nexts) (entry .info .name) (now way) (stand .at) (now text) ⌝ }
+    ensures { λ r. ⌜ MakePromise journal image forward heads nexts way text (stand .at) entry (stand .used) r ⌝ }
 {
+    let used = stand.used;
     let found = seek(forward, used, heads, nexts, entry.key);
     let slot = slot_of(found, used);
     if forward.len() / STRIDE <= slot {
@@ -117,17 +152,22 @@ pub fn make_step(
         found,
     ) {
         Stored::Refused(n) => Made::Refused(n),
-        Stored::Used(n) => tell(
-            journal,
-            image,
-            forward,
-            n,
-            heads,
-            nexts,
-            entry.info,
-            held,
-            text,
-            at,
-        ),
+        Stored::Used(n) => {
+            let record = entry.info;
+            tell(
+                journal,
+                image,
+                Entered { info: record, held },
+                Stand {
+                    used: n,
+                    at: stand.at,
+                },
+                forward,
+                heads,
+                nexts,
+                way,
+                text,
+            )
+        }
     }
 }

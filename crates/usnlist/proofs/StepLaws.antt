@@ -8,7 +8,7 @@ use lib.ListN.{length}
 use Rattle.walk.specs.Outcome.{Outcome, refused, answered, mapOutcome}
 use Rattle.walk.proofs.ChoiceLaws.{cond-cases}
 use Rattle.chain.specs.declared.ResolvedPath.{ResolvedPath}
-use Rattle.path.specs.Telling.{withText}
+use Rattle.path_text.specs.Decoding.{withText}
 use Rattle.rewind_records.specs.Turning.{Next}
 use Rattle.rewind_steps.specs.Taking.{Step}
 use Rattle.rewind.specs.Stepping.{stepped, rewindAfter, wordsAfter}

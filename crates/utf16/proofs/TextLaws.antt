@@ -1,4 +1,4 @@
--- The text of units by their first code point, of ASCII, and its length: at most three bytes a unit. Assumes nothing.
+-- The text of units by their first code point, of ASCII, and its length: one to three bytes a unit. Assumes nothing.
 use Prim.Native.Nat.{ℕ, zero, suc, _+_, _*_, _/_, _≤_, _<_}
 use mathlib.Core.Path.{_≡_, refl, ap, _∙_}
 use mathlib.Core.List.{List, [], _∷_, _++_}
@@ -10,7 +10,7 @@ use Rattle.utf16.specs.Utf16.{isPair, joined, alone, codePoints, unitsAt
 use Rattle.utf16.specs.Utf8.{utf8}
 use Rattle.utf16.specs.Text.{decoded, nameText}
 use Rattle.utf16.proofs.Utf16Laws.{alone-small, points-pair, points-alone, points-below, units-length}
-use Rattle.utf16.proofs.Utf8Laws.{utf8-one, utf8-most, utf8-small}
+use Rattle.utf16.proofs.Utf8Laws.{utf8-one, utf8-four, utf8-most, utf8-small, utf8-least}
 
 pub text-none : decoded [] ≡ []
 unfolding decoded codePoints
@@ -55,6 +55,26 @@ text-most (u ∷ (v ∷ us)) h = go (isPair u v) refl (text-most us (λ i. h (su
         → length (decoded (u ∷ (v ∷ us))) ≤ 3 * suc (suc (length us))
     go true e g k = omega (arith, append-most (utf8 (joined u v)) (decoded us) (text-pair u v us e) (utf8-most (joined u v)) g)
     go false e g k = omega (arith, append-most (utf8 (alone u)) (decoded (v ∷ us)) (text-alone u v us e) (alone-most u (h 0)) k)
+
+-- at least one byte a unit
+append-least : {xs : List ℕ} (ys zs : List ℕ) {k n : ℕ} → xs ≡ ys ++ zs → k ≤ length ys → n ≤ length zs → k + n ≤ length xs
+append-least ys zs e h g = omega (arith, ap length e, length-append ys zs)
+
+pair-least : (u v : ℕ) → 2 ≤ length (utf8 (joined u v))
+pair-least u v = omega (arith, ap length (utf8-four (joined u v) (omega arith)))
+
+pub text-least : (us : List ℕ) → length us ≤ length (decoded us)
+text-least [] = omega arith
+text-least (u ∷ []) = append-least (utf8 (alone u)) (decoded []) {n = 0} (text-last u) (utf8-least (alone u)) (omega arith)
+text-least (u ∷ (v ∷ us)) = go (isPair u v) refl (text-least us) (text-least (v ∷ us))
+  where
+    go : (b : Bool) → isPair u v ≡ b → length us ≤ length (decoded us) → suc (length us) ≤ length (decoded (v ∷ us))
+        → suc (suc (length us)) ≤ length (decoded (u ∷ (v ∷ us)))
+    go true e g k = omega (arith, append-least (utf8 (joined u v)) (decoded us) (text-pair u v us e) (pair-least u v) g)
+    go false e g k = omega (arith, append-least (utf8 (alone u)) (decoded (v ∷ us)) (text-alone u v us e) (utf8-least (alone u)) k)
+
+pub name-least : (s : List ℕ) (o n : ℕ) → n / 2 ≤ length (nameText s o n)
+name-least s o n = rw (units-length s o (n / 2)) at (text-least (unitsAt s o (n / 2)))
 
 -- units of bytes are below 10000h
 pub units-small : (s : List ℕ) → ((i : ℕ) → getD s i 0 < 256) → (o n i : ℕ) → getD (unitsAt s o n) i 0 < 0x10000

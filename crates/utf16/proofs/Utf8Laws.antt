@@ -41,3 +41,12 @@ utf8-small c h =
     cond-cases P (ltb c 0x80) (λ _. omega arith) λ _.
     cond-cases P (ltb c 0x800) (λ _. omega arith) λ _.
     rw (lt-ltb c 0x10000 h) (omega arith)
+
+-- and one at least
+pub utf8-least : (c : ℕ) → 1 ≤ length (utf8 c)
+unfolding utf8
+utf8-least c =
+    let P : List ℕ → Type 0 = λ bs. 1 ≤ length bs in
+    cond-cases P (ltb c 0x80) (λ _. omega arith) λ _.
+    cond-cases P (ltb c 0x800) (λ _. omega arith) λ _.
+    cond-cases P (ltb c 0x10000) (λ _. omega arith) λ _. omega arith

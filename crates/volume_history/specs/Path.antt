@@ -11,7 +11,8 @@ use Rattle.entry_slots.specs.declared.NamePlace.{NamePlace}
 use Rattle.chain.specs.Settings.{depth}
 use Rattle.chain.specs.Chain.{Chain}
 use Rattle.chain.specs.Tracing.{tracing}
-use Rattle.path.specs.Telling.{telling, decoding}
+use Rattle.path_text.specs.Decoding.{decoding}
+use Rattle.path.specs.Telling.{telling}
 
 -- a path with its text, with lent words for the answer
 abbrev pub resolveCall : List ℕ → List ℕ → List ℕ → ℕ → EntryKey → List ℕ → List ℕ → Outcome Chain

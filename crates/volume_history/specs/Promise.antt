@@ -20,7 +20,7 @@ use Rattle.entry_slots.specs.declared.EntryKey.{EntryKey}
 use Rattle.entry_slots.specs.declared.NamePlace.{NamePlace}
 use Rattle.chain.specs.Chain.{Chain, resolved}
 use Rattle.chain.specs.Tracing.{chainAfter}
-use Rattle.path.specs.Text.{placeText, placeLength, pathText}
+use Rattle.path_text.specs.Text.{placeText, placeLength, pathText}
 use Rattle.path.specs.Telling.{told}
 use Rattle.volume_answers.specs.Path.{resolvedWords, toldWords}
 use Rattle.volume_history.specs.Image.{carveCall, carvedWords}

@@ -13,7 +13,7 @@
 // of its answer alone: those past them stay as they were. What lies in the words for an index, specs/Promise.antt says.
 ghost use mathlib.Core.Path.{_≡_};
 ghost use mathlib.Core.Bool.{true, false};
-ghost use Rattle.path.specs.Telling.{place};
+ghost use Rattle.path_text.specs.Decoding.{place};
 ghost use Rattle.volume_history.specs.Promise.{CarveCallPromise, DecodeCallPromise, PlaceCallPromise, StorePromise, SeedCallPromise, ChainCallPromise, ResolvePromise, SeedIndexedCallPromise};
 ghost use Rattle.volume_history.specs.Table.{keyOf, infoOf};
 use entry_slots::EntryInfo;
@@ -262,7 +262,7 @@ pub extern "C" fn path_decode(
         return LIST_FULL;
     }
     put_length(
-        path::decode(journal, image, source, offset, length, text),
+        path_text::decode(journal, image, source, offset, length, text),
         out,
     )
 }

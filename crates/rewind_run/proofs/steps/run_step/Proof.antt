@@ -6,9 +6,9 @@ use Rattle.rewind_run.proofs.steps.run_step.Tie as tie
 
 returns : tie.Need-returns
 returns c =
-    let root = c .before .before .before .before .before .before .before .before in
+    let root = c .before .before .before .before .before .before .before .before .before .before in
     let s = root .args in
-    step-end (s .journal .now) (s .image .now) (s .records .now) (s .forward .now) (s .used) (s .position) (root .pre .0 .passes) (s .at) (s .heads .now) (s .nexts .now) (s .text .now) (root .pre .0 .index) (c .if1 .taken)
+    step-end (s .journal .now) (s .image .now) (s .records .now) (s .forward .now) (s .standing .rewind .used) (s .standing .rewind .position) (root .pre .0 .passes) (s .standing .at) (s .heads .now) (s .nexts .now) (s .text .now) (root .pre .0 .index) (c .if1 .taken)
 
 mul-entry-at : tie.Need-mul-entry-at
 mul-entry-at c = search needs
@@ -24,9 +24,9 @@ entry-at-requires c κs = search needs
 
 make-step-requires : tie.Need-make-step-requires
 make-step-requires c κs =
-    let root = c .before .before .before .before .before .before .before .before .before .before .before .before .before .before in
+    let root = c .before .before .before .before .before .before .before .before .before .before .before .before .before .before .before .before .before in
     let s = root .args in
-    let p = tests (s .journal .now) (s .image .now) (s .records .now) (s .forward .now) (s .used) (s .position) (root .pre .0 .passes) in
+    let p = tests (s .journal .now) (s .image .now) (s .records .now) (s .forward .now) (s .standing .rewind .used) (s .standing .rewind .position) (root .pre .0 .passes) in
     record {
       fits = p .fits;
       index = root .pre .0 .index;
@@ -34,8 +34,9 @@ make-step-requires c κs =
       names = p .places;
       near-journal = p .journal;
       near-image = p .image;
-      own = own-inside (s .journal .now) (s .image .now) (s .records .now) (s .forward .now) (s .used) (s .position) (root .pre .0 .passes) (c .before .before .before .before .before .before .if1 .left) (c .before .before .before .before .entry-at .ensures);
-      room = root .pre .1;
+      own = own-inside (s .journal .now) (s .image .now) (s .records .now) (s .forward .now) (s .standing .rewind .used) (s .standing .rewind .position) (root .pre .0 .passes) (c .before .before .before .before .before .before .before .if1 .left) (c .before .before .before .before .before .entry-at .ensures);
+      levels = root .pre .1 .0;
+      room = root .pre .1 .1;
     }
 
 same-length : tie.Need-same-length
@@ -50,11 +51,14 @@ same-length-3 c = search needs
 same-length-4 : tie.Need-same-length-4
 same-length-4 c = search needs
 
+same-length-5 : tie.Need-same-length-5
+same-length-5 c = search needs
+
 returns-2 : tie.Need-returns-2
 returns-2 c =
-    let root = c .before .before .before .before .before .before .before .before .before .before .before .before .before .before .before .before .before .before .before .before .before .before .before in
+    let root = c .before .before .before .before .before .before .before .before .before .before .before .before .before .before .before .before .before .before .before .before .before .before .before .before .before .before .before .before in
     let s = root .args in
-    step-next (s .journal .now) (s .image .now) (s .records .now) (s .forward .now) (s .used) (s .position) (root .pre .0 .passes) (c .before .before .before .before .before .before .before .before .before .before .before .before .before .before .before .if1 .left) (c .before .before .before .before .before .before .before .before .before .before .before .before .before .entry-at .ensures) (s .at) (s .heads .now) (s .nexts .now) (s .text .now) (c .before .before .before .before .before .before .before .before .make-step .ensures)
+    step-next (s .journal .now) (s .image .now) (s .records .now) (s .forward .now) (s .standing .rewind .used) (s .standing .rewind .position) (root .pre .0 .passes) (c .before .before .before .before .before .before .before .before .before .before .before .before .before .before .before .before .before .before .if1 .left) (c .before .before .before .before .before .before .before .before .before .before .before .before .before .before .before .before .entry-at .ensures) (s .standing .at) (s .heads .now) (s .nexts .now) (s .text .now) (c .before .before .before .before .before .before .before .before .before .before .make-step .ensures)
 
 pub run-step-spec : {M : Type 1} → statement M
 run-step-spec =
@@ -70,4 +74,5 @@ run-step-spec =
     same-length-2
     same-length-3
     same-length-4
+    same-length-5
     returns-2)

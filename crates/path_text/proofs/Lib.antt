@@ -1,0 +1,3 @@
+pub mod MarkerLaws
+pub mod NameLaws
+pub mod CallLaws
