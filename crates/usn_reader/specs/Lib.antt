@@ -4,3 +4,4 @@ pub mod Calls
 pub mod Promise
 pub mod Journal
 pub mod Run
+pub mod Delivery
