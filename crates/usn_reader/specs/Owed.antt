@@ -88,13 +88,14 @@ Lasts (giveOther b x) o st = Unit {0}
 abbrev pub Lasting : List ℕ → List ℕ → List Call → Type 0
 Lasting s b cs = Along Lasts cs nothing (freshOver s b)
 
--- 1 for a call that goes on: asking where nothing is owed, and an accepted giving of some bytes
+-- 1, or 0 for a refusal
 abbrev pub countIf : Answer → ℕ
 countIf (Record o n r) = 1
 countIf (Wants from bytes) = 1
 countIf End = 1
 countIf (Refused n) = 0
 
+-- 1 for a call that goes on: asking where nothing is owed, and an accepted giving of some bytes
 abbrev pub goesOn : Call → Answer → Owed → ℕ
 goesOn next a o = cond (eqb (o .bytes) 0) 1 0
 goesOn (give x) a o = cond (eqb (length x) 0) 0 (countIf a)
