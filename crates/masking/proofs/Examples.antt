@@ -30,9 +30,11 @@ use Rattle.usn_carver.proofs.Examples.{E-carved, overlap-first, overlap-masked}
 use Rattle.usn_reader.specs.Window.{windowSize, wrongEnd, wrongNumbers, refusalOf, wantedOf}
 use Rattle.usn_reader.specs.Rule.{namedFrom, byLength, turnOf, turns, searched}
 use Rattle.usn_reader.specs.Calls.{nextOf, giveRefusal, giveOf}
-use Rattle.usn_reader.specs.Run.{Call, next, give, giveOther, stateAfter, readingOf, givenBy, freshOver, AllCarry, shapes}
+use Rattle.usn_reader.specs.Run.{Call, next, give, giveOther, readingOf, givenBy, freshOver, shapes}
+use Rattle.usn_reader.specs.Owed.{nothing, owedReached, Delivery}
 use Rattle.usn_reader.specs.declared.Reading.{Reading}
 use Rattle.usn_reader.proofs.RunLaws.{journalReading, journalReadings, run-journal}
+use Rattle.usn_reader.proofs.CountLaws.{delivery-carries}
 use Rattle.usn_reader.proofs.TwoRuns.{fresh-filled}
 use Rattle.mft_carver.specs.Filename.{replaces, keep}
 use Rattle.mft_carver.specs.Attributes.{given, attributeAt, filenameIn, visit as attributeVisit}
@@ -134,21 +136,20 @@ unfolding journalReading nextOf giveOf giveRefusal refusalOf wantedOf wrongNumbe
 given-one = refl
 
 module _ (x : ℕ) (s b : List ℕ) (es : length s ≡ 64) (eb : length b ≡ windowSize) where
-  -- the window that waits for a journal of 64 bytes
-  waits : (stateAfter (giveOther [] (x ∷ [])) (stateAfter next (freshOver s b)) .window .start ≡ 0)
-      × (stateAfter (giveOther [] (x ∷ [])) (stateAfter next (freshOver s b)) .window .held ≡ 0)
+  -- a journal of 64 bytes is owed from its first byte on, after a giving that was refused too
+  waits : owedReached (next ∷ giveOther [] (x ∷ []) ∷ []) nothing (freshOver s b) .from ≡ 0
   unfolding readingOf nextOf giveOf giveRefusal refusalOf wantedOf wrongNumbers wrongEnd searched turns turnOf
-  waits = rw (eb, es) (refl, refl)
+  waits = rw (eb, es) refl
 
-  carries : AllCarry s (calls x s) (freshOver s b)
-  carries = (tt, ((λ e. omega arith), ((λ _. rw (waits .0, waits .1) (sym (take-all (length s) s (omega arith)))), (tt, (tt, tt)))))
+  carries : Delivery s b (calls x s)
+  carries = (tt, ((λ e. omega arith), ((λ _. rw waits (sym (take-all (length s) s (omega arith)))), (tt, (tt, tt)))))
 
 module _ (b c : List ℕ) (eb : length b ≡ windowSize) (ec : length c ≡ windowSize) where
   window-names : journalNames journal (windowPlaces journal b (calls 7 journal)) ≡ name
   unfolding nameAt listed parsed recordOf filenameOf leAt le
   window-names =
       ap (λ (xs : List Reading). journalNames journal (givenBy xs))
-      (run-journal journal (calls 7 journal) (freshOver journal b) (fresh-filled journal b eb) (carries 7 journal b refl eb))
+      (run-journal journal (calls 7 journal) (freshOver journal b) (fresh-filled journal b eb) (delivery-carries journal b (calls 7 journal) (carries 7 journal b refl eb)))
       ∙ ap (journalNames journal) given-one
 
   pub window-runs : WindowShares journal journal′ (image abc) (image xyz) entries b c (calls 7 journal) (calls 8 journal′)

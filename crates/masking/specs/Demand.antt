@@ -16,7 +16,8 @@ use Rattle.usn_carver.specs.Settings.{standard}
 use Rattle.usn_carver.specs.Carve.{events, carving, carvingList}
 use Rattle.usn_carver.specs.Masking.{NoOverlap, IfAnswered, carvedRecords}
 use Rattle.usn_reader.specs.Window.{windowSize}
-use Rattle.usn_reader.specs.Run.{readings, givenBy, freshOver, AllCarry, shapes, Call as WindowCall}
+use Rattle.usn_reader.specs.Run.{readings, givenBy, freshOver, shapes, Call as WindowCall}
+use Rattle.usn_reader.specs.Owed.{Delivery}
 use Rattle.mft_carver.specs.Settings.{standard as imageStandard}
 use Rattle.mft_carver.specs.Carve.{carving as imageCarving, carvingList as imageList}
 use Rattle.mft_carver.specs.Masking.{carvedEntries, carvedNames}
@@ -118,15 +119,15 @@ abbrev pub windowPlaces : List ℕ → List ℕ → List WindowCall → List Pla
 windowPlaces journal buffer cs = givenBy (readings cs (freshOver journal buffer))
 
 -- what may differ: the bytes of the buffers at the start, and what is given. The calls are the same, with buffers of the same lengths, and give
--- as many bytes; givings that are accepted carry each run's own journal, and refused ones anything.
+-- as many bytes; givings that are accepted carry, one after another, each run's own journal from where each refill began, and refused ones anything.
 pub record WindowRuns (journal journal′ image image′ entries buffer buffer′ : List ℕ) (cs ds : List WindowCall) : Type 0 where
   pub images : Masked image image′ (imageNames image entries)
   pub journals : Masked journal journal′ (journalNames journal (windowPlaces journal buffer cs))
   pub whole : length buffer ≡ windowSize
   pub whole′ : length buffer′ ≡ windowSize
   pub alike : shapes ds ≡ shapes cs
-  pub carries : AllCarry journal cs (freshOver journal buffer)
-  pub carries′ : AllCarry journal′ ds (freshOver journal′ buffer′)
+  pub carries : Delivery journal buffer cs
+  pub carries′ : Delivery journal′ buffer′ ds
 
 -- what is shared
 pub record WindowShares (journal journal′ image image′ entries buffer buffer′ : List ℕ) (cs ds : List WindowCall) : Type 0 where

@@ -5,15 +5,38 @@ use mathlib.Core.List.{List, [], _∷_}
 use lib.ListN.{length}
 use lib.Dec.{eqb}
 use borrow.Author.Tests.{ne-eqb}
-use Rattle.usn_reader.specs.Window.{windowSize, refusalOf}
+use Rattle.walk.specs.Places.{part}
+use Rattle.usn_reader.specs.Window.{windowSize, refusalOf, wantedOf}
 use Rattle.usn_reader.specs.Rule.{Reads, bufferReads, journalReads}
 use Rattle.usn_reader.specs.Calls.{nextOf, giveRefusal, giveOf}
-use Rattle.usn_reader.specs.Run.{Call, next, give, nextOther, giveOther, State, Shape, asks, gives, shapeOf, readingOf, bufferOf, stateAfter, readings, Carries, AllCarry, shapes}
+use Rattle.usn_reader.specs.Run.{Call, next, give, nextOther, giveOther, State, Shape, asks, gives, shapeOf, readingOf, bufferOf, stateAfter, readings, shapes}
 use Rattle.usn_reader.specs.declared.UsnJournalReader.{UsnJournalReader}
 use Rattle.usn_reader.specs.declared.Reading.{Reading}
 use Rattle.usn_reader.proofs.WindowLaws.{sound-of}
 use Rattle.usn_reader.proofs.BufferLaws.{Filled, next-same}
 use Rattle.usn_reader.proofs.GiveLaws.{give-filled}
+
+-- By the window's own count: an accepted giving carries the journal from where the window's last bytes ended, and no empty giving is accepted
+-- while bytes are wanted. Of a source that keeps its own account both are laws (`CountLaws`).
+abbrev pub Carries : List ℕ → Call → State → Type 0
+Carries s next st = Unit {0}
+Carries s (give x) st = giveRefusal (length (st .buffer)) (length x) (st .window) ≡ 0 → x ≡ part s (st .window .start + st .window .held) (length x)
+Carries s (nextOther b) st = length b ≡ windowSize → ⊥
+Carries s (giveOther b x) st = length b ≡ windowSize → ⊥
+
+abbrev pub AllCarry : List ℕ → List Call → State → Type 0
+AllCarry s [] st = Unit {0}
+AllCarry s (c ∷ cs) st = Carries s c st × AllCarry s cs (stateAfter c st)
+
+abbrev pub Goes : Call → State → Type 0
+Goes next st = Unit {0}
+Goes (give x) st = giveRefusal (length (st .buffer)) (length x) (st .window) ≡ 0 → length x ≡ 0 → wantedOf (st .window) ≡ 0
+Goes (nextOther b) st = Unit {0}
+Goes (giveOther b x) st = Unit {0}
+
+abbrev pub AllGo : List Call → State → Type 0
+AllGo [] st = Unit {0}
+AllGo (c ∷ cs) st = Goes c st × AllGo cs (stateAfter c st)
 
 -- a call with a buffer of another length is refused
 pub other : (w : UsnJournalReader) (n : ℕ) → (n ≡ windowSize → ⊥) → refusalOf w n ≡ 0 → ⊥

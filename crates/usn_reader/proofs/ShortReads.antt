@@ -1,6 +1,6 @@
--- However the bytes of a journal are delivered, the window gives the journal's records: what a list of calls gave, followed by what is still
--- to come from the window that it reached, is the window's list of the journal; and after an end nothing is to come, unless an empty giving
--- ended the reading. Assumes nothing.
+-- By any list of calls that delivers a journal the window gives the journal's records: what it gave, followed by what is still to come from
+-- the window that it reached, is the window's list of the journal; and after an end nothing is to come, unless an empty giving ended the
+-- reading. That the end is reached is shown in `Progress` and `Forward`. Assumes nothing.
 use Prim.Native.Nat.{ℕ, _+_, _-_, _≤_, _<_}
 use mathlib.Core.Path.{_≡_, refl, sym, ap, _∙_}
 use mathlib.Core.List.{List, [], _∷_, _++_, append-assoc, append-nil}
@@ -17,14 +17,16 @@ use Rattle.usn_reader.specs.Window.{windowSize, refusalOf, wantedOf, fin
 use Rattle.usn_reader.specs.Rule.{Reads, bufferReads, journalReads, reading, asking, searched}
 use Rattle.usn_reader.specs.Calls.{nextOf, giveRefusal, giveOf}
 use Rattle.usn_reader.specs.Journal.{windowList}
-use Rattle.usn_reader.specs.Run.{Call, next, give, nextOther, giveOther, State, Shape, asks, gives, shapeOf, readingOf, bufferOf, stateAfter, readings, reached, placeOf, givenBy, coming, Tells, freshOver, Carries, AllCarry, Goes, AllGo}
+use Rattle.usn_reader.specs.Run.{Call, next, give, nextOther, giveOther, State, Shape, asks, gives, shapeOf, readingOf, bufferOf, stateAfter, readings, reached, placeOf, givenBy, coming, Tells, freshOver}
+use Rattle.usn_reader.specs.Owed.{Delivery, Lasting}
 use Rattle.usn_reader.specs.declared.UsnJournalReader.{UsnJournalReader}
 use Rattle.usn_reader.specs.declared.Answer.{Answer}
 use Rattle.usn_reader.specs.declared.Answer.the-variants.{Record, Wants, End, Refused}
 use Rattle.usn_reader.specs.declared.Reading.{Reading}
 use Rattle.usn_reader.proofs.JournalLaws.{Steady}
 use Rattle.usn_reader.proofs.BufferLaws.{Filled}
-use Rattle.usn_reader.proofs.RunLaws.{other, journalReading, call-journal}
+use Rattle.usn_reader.proofs.RunLaws.{Carries, AllCarry, Goes, AllGo, other, journalReading, call-journal}
+use Rattle.usn_reader.proofs.CountLaws.{delivery-carries, lasting-goes}
 use Rattle.usn_reader.proofs.ComeLaws.{Over, Comes, search-comes}
 
 -- an ended window has nothing to come
@@ -158,14 +160,14 @@ module _ (s : List ℕ) where
     record { total = refl; steady = record { inside = omega arith; near = omega arith } },
   )
 
-  pub short-reads : (b : List ℕ) → length b ≡ windowSize → (cs : List Call) → AllCarry s cs (freshOver s b)
+  pub short-reads : (b : List ℕ) → length b ≡ windowSize → (cs : List Call) → Delivery s b cs
       → (givenBy (readings cs (freshOver s b)) ++ coming s (reached cs (freshOver s b) .window) ≡ windowList s)
       × All (λ x. Tells s (x .answer) (x .reader)) (readings cs (freshOver s b))
-  short-reads b e cs k = run-goes cs (freshOver s b) (fresh-holds b e) k
+  short-reads b e cs k = run-goes cs (freshOver s b) (fresh-holds b e) (delivery-carries s b cs k)
 
-  pub no-early-end : (b : List ℕ) → length b ≡ windowSize → (cs : List Call) → AllCarry s cs (freshOver s b) → AllGo cs (freshOver s b)
+  pub no-early-end : (b : List ℕ) → length b ≡ windowSize → (cs : List Call) → Delivery s b cs → Lasting s b cs
       → All (λ x. x .answer ≡ End → coming s (x .reader) ≡ []) (readings cs (freshOver s b))
-  no-early-end b e cs k o = run-ends cs (freshOver s b) (fresh-holds b e) k o (λ f. absurd (true≢false (sym f)))
+  no-early-end b e cs k o = run-ends cs (freshOver s b) (fresh-holds b e) (delivery-carries s b cs k) (lasting-goes s b cs o) (λ f. absurd (true≢false (sym f)))
 
   -- the state that a list of calls reaches holds the journal as well, and is quiet
   run-reaches : (cs ds : List Call) (st : State) → Holds st → AllCarry s (cs ++ ds) st → AllGo (cs ++ ds) st → Quiet s (st .window)
@@ -180,11 +182,11 @@ module _ (s : List ℕ) where
   reached-last (d ∷ cs) c st = reached-last cs c (stateAfter d st)
 
   -- so whoever goes on until the end, and never gives nothing while bytes are wanted, has all records, however the bytes were cut
-  pub all-given : (b : List ℕ) → length b ≡ windowSize → (cs : List Call) (c : Call) → AllCarry s (cs ++ (c ∷ [])) (freshOver s b) → AllGo (cs ++ (c ∷ [])) (freshOver s b)
+  pub all-given : (b : List ℕ) → length b ≡ windowSize → (cs : List Call) (c : Call) → Delivery s b (cs ++ (c ∷ [])) → Lasting s b (cs ++ (c ∷ []))
       → readingOf c (reached cs (freshOver s b)) .answer ≡ End → givenBy (readings (cs ++ (c ∷ [])) (freshOver s b)) ≡ windowList s
   all-given b e cs c k o a =
       let st = freshOver s b in
-      let r = run-reaches cs (c ∷ []) st (fresh-holds b e) k o (λ f. absurd (true≢false (sym f))) in
+      let r = run-reaches cs (c ∷ []) st (fresh-holds b e) (delivery-carries s b (cs ++ (c ∷ [])) k) (lasting-goes s b (cs ++ (c ∷ [])) o) (λ f. absurd (true≢false (sym f))) in
       let g = call-goes c (reached cs st) (r .0) (r .2 .0) in
       let z : coming s (readingOf c (reached cs st) .reader) ≡ [] = g .1 (r .3 .0) (r .1) .0 a in
       sym (append-nil (givenBy (readings (cs ++ (c ∷ [])) st)))

@@ -17,7 +17,8 @@ use Rattle.usn_record.specs.Record.{listed}
 use Rattle.usn_record.specs.Names.{fixedOf, nameAt}
 use Rattle.usn_record.proofs.NameLaws.{fixed-low, listed-agrees, name-after-fixed, name-before-end}
 use Rattle.usn_reader.specs.Window.{windowSize}
-use Rattle.usn_reader.specs.Run.{Call, Shape, asks, gives, shapeOf, readings, placeOf, givenBy, freshOver, AllCarry, shapes}
+use Rattle.usn_reader.specs.Run.{Call, Shape, asks, gives, shapeOf, readings, placeOf, givenBy, freshOver, shapes}
+use Rattle.usn_reader.specs.Owed.{Delivery}
 use Rattle.usn_reader.specs.declared.UsnJournalReader.{UsnJournalReader}
 use Rattle.usn_reader.specs.declared.Answer.{Answer}
 use Rattle.usn_reader.specs.declared.Answer.the-variants.{Record, Wants, End, Refused}
@@ -25,6 +26,7 @@ use Rattle.usn_reader.specs.declared.Reading.{Reading}
 use Rattle.usn_reader.proofs.BufferLaws.{Filled}
 use Rattle.usn_reader.proofs.ReadLaws.{Good, good-up, reach, next-reads, next-good, give-good}
 use Rattle.usn_reader.proofs.RunLaws.{journalReading, journalReadings, run-journal}
+use Rattle.usn_reader.proofs.CountLaws.{delivery-carries}
 
 module _ (s t : List ℕ) where
   abbrev names : List Place → List Place
@@ -111,11 +113,11 @@ fresh-filled s b e = record { size = e; total = refl; bytes = λ i h. absurd (om
 -- both runs from a fresh window of the journal's length, each over a buffer of its own, with calls of one shape whose accepted givings carry
 -- each run's journal
 pub window-two-runs : (s t b c : List ℕ) → length b ≡ windowSize → length c ≡ windowSize → (cs ds : List Call) → shapes ds ≡ shapes cs
-    → AllCarry s cs (freshOver s b) → AllCarry t ds (freshOver t c)
+    → Delivery s b cs → Delivery t c ds
     → Masked s t (placesOf (λ (p : Place). nameAt s (p .offset)) (givenBy (readings cs (freshOver s b))))
     → (readings ds (freshOver t c) ≡ readings cs (freshOver s b)) × All (λ (p : Place). listed t (p .offset) ≡ listed s (p .offset)) (givenBy (readings cs (freshOver s b)))
 window-two-runs s t b c eb ec cs ds sh ks kt m =
-    let x : readings cs (freshOver s b) ≡ journalReadings s (shapes cs) (freshOver s b .window) = run-journal s cs (freshOver s b) (fresh-filled s b eb) ks in
-    let y : readings ds (freshOver t c) ≡ journalReadings t (shapes ds) (freshOver t c .window) = run-journal t ds (freshOver t c) (fresh-filled t c ec) kt in
+    let x : readings cs (freshOver s b) ≡ journalReadings s (shapes cs) (freshOver s b .window) = run-journal s cs (freshOver s b) (fresh-filled s b eb) (delivery-carries s b cs ks) in
+    let y : readings ds (freshOver t c) ≡ journalReadings t (shapes ds) (freshOver t c .window) = run-journal t ds (freshOver t c) (fresh-filled t c ec) (delivery-carries t c ds kt) in
     let r = run-two s t (m .long) (shapes cs) (freshOver s b .window) (λ i _ k. m .same i (rw x k)) in
     (y ∙ rw (sh, m .long) (r .0 ∙ sym x), rw x (r .1))

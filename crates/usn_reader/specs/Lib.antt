@@ -4,3 +4,5 @@ pub mod Calls
 pub mod Promise
 pub mod Journal
 pub mod Run
+pub mod Owed
+pub mod Delivery

@@ -1,18 +1,17 @@
 -- Lists of calls, refused ones included, from one window and its buffer on.
-use Prim.Native.Nat.{ℕ, _+_, _-_, _<_}
+use Prim.Native.Nat.{ℕ, _-_}
 use mathlib.Core.Path.{_≡_}
 use mathlib.Core.List.{List, [], _∷_, _++_}
 use lib.ListN.{length}
 use Rattle.walk.specs.Outcome.{answered}
-use Rattle.walk.specs.Places.{part}
 use Rattle.walk.specs.declared.Place.{Place}
 use Rattle.usn_record.specs.Bytes.{leAt}
 use Rattle.usn_record.specs.Record.{listed}
 use Rattle.usn_record.specs.declared.UsnRecord.{UsnRecord}
-use Rattle.usn_reader.specs.Window.{windowSize, wantedOf, fresh}
+use Rattle.usn_reader.specs.Window.{windowSize, fresh}
 use Rattle.usn_reader.specs.Rule.{bufferReads, namedFrom}
 use Rattle.usn_reader.specs.Journal.{toCome}
-use Rattle.usn_reader.specs.Calls.{nextOf, giveRefusal, giveOf, bufferAfter}
+use Rattle.usn_reader.specs.Calls.{nextOf, giveOf, bufferAfter}
 use Rattle.usn_reader.specs.declared.UsnJournalReader.{UsnJournalReader}
 use Rattle.usn_reader.specs.declared.Answer.{Answer}
 use Rattle.usn_reader.specs.declared.Answer.the-variants.{Record, Wants, End, Refused}
@@ -102,25 +101,3 @@ Tells s (Refused n) w = Unit {0}
 -- a fresh window over a journal, with a buffer
 abbrev pub freshOver : List ℕ → List ℕ → State
 freshOver s b = record { window = fresh (length s); buffer = b }
-
--- an accepted giving carries the journal from where the window's last bytes ended; another buffer has another length
-abbrev pub Carries : List ℕ → Call → State → Type 0
-Carries s next st = Unit {0}
-Carries s (give x) st = giveRefusal (length (st .buffer)) (length x) (st .window) ≡ 0 → x ≡ part s (st .window .start + st .window .held) (length x)
-Carries s (nextOther b) st = length b ≡ windowSize → ⊥
-Carries s (giveOther b x) st = length b ≡ windowSize → ⊥
-
-abbrev pub AllCarry : List ℕ → List Call → State → Type 0
-AllCarry s [] st = Unit {0}
-AllCarry s (c ∷ cs) st = Carries s c st × AllCarry s cs (stateAfter c st)
-
--- no empty giving ends the reading: none is accepted while bytes are wanted
-abbrev pub Goes : Call → State → Type 0
-Goes next st = Unit {0}
-Goes (give x) st = giveRefusal (length (st .buffer)) (length x) (st .window) ≡ 0 → length x ≡ 0 → wantedOf (st .window) ≡ 0
-Goes (nextOther b) st = Unit {0}
-Goes (giveOther b x) st = Unit {0}
-
-abbrev pub AllGo : List Call → State → Type 0
-AllGo [] st = Unit {0}
-AllGo (c ∷ cs) st = Goes c st × AllGo cs (stateAfter c st)

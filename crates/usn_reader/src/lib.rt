@@ -1,7 +1,11 @@
 // The window over a journal that is delivered in pieces: `next` answers the next record or says which bytes it wants, `give` takes them.
 //
 // Every function here is proved. No call has a `requires`: numbers that cannot be a window's, a buffer of another length and too many
-// bytes are refused by number, and the window comes back equal. However the bytes are delivered, the records are the same.
+// bytes are refused by number, and the window comes back equal.
+//
+// However the bytes of a journal are delivered, one or more of the wanted ones at a time, no call is refused, the end is reached within
+// 4 calls a byte and 17 more, not counting those that ask again before all bytes are given, and the records are the same, with the
+// bytes of their names in the buffer (proofs/FullReads.antt).
 mod turn;
 mod window;
 

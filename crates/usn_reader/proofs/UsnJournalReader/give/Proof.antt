@@ -38,7 +38,7 @@ fed-requires : tie.Need-fed-requires
 fed-requires c κs = give-fits (now (c .before .before .before .before .before .before .before .before .before .before .before .args .buffer)) (now (c .before .before .before .before .before .before .before .before .before .before .before .args .bytes)) _ (c .before .before .before .before .before .before .before .before .refusal .ensures) (omega arith) (c .before .before .before .before .before .before .wanted .ensures) (omega arith)
 
 asking-requires-2 : tie.Need-asking-requires-2
-asking-requires-2 c κs = rw (c .fed .ensures) (give-fits (now (c .before .before .before .before .before .before .before .before .before .before .before .before .args .buffer)) (now (c .before .before .before .before .before .before .before .before .before .before .before .before .args .bytes)) _ (c .before .before .before .before .before .before .before .before .before .refusal .ensures) (omega arith) (c .before .before .before .before .before .before .before .wanted .ensures) (omega arith))
+asking-requires-2 c κs = rw (c .fed .ensures) (omega (arith, give-fits (now (c .before .before .before .before .before .before .before .before .before .before .before .before .args .buffer)) (now (c .before .before .before .before .before .before .before .before .before .before .before .before .args .bytes)) _ (c .before .before .before .before .before .before .before .before .before .refusal .ensures) (omega arith) (c .before .before .before .before .before .before .before .wanted .ensures) (omega arith)))
 
 same-length : tie.Need-same-length
 same-length c = search needs

@@ -22,10 +22,10 @@ returns-4 : tie.Need-returns-4
 returns-4 c = refused-end _ _ (omega arith) (omega arith) (sym (c .before .wrong-end .ensures) ∙ c .if4 .taken)
 
 returns-5 : tie.Need-returns-5
-returns-5 c = refused-start _ _ (omega arith) (omega arith) (sym (c .before .before .before .wrong-end .ensures) ∙ c .before .before .if4 .left) (c .if5 .taken)
+returns-5 c = refused-start _ _ (omega arith) (omega arith) (sym (c .before .before .before .wrong-end .ensures) ∙ c .before .before .if4 .left) (λ e. c .if5 .taken (omega arith))
 
 returns-6 : tie.Need-returns-6
-returns-6 c = refused-position _ _ (omega arith) (omega arith) (sym (c .before .before .before .before .before .wrong-end .ensures) ∙ c .before .before .before .before .if4 .left) (omega arith) (c .if6 .taken)
+returns-6 c = refused-position _ _ (omega arith) (omega arith) (sym (c .before .before .before .before .before .wrong-end .ensures) ∙ c .before .before .before .before .if4 .left) (omega arith) (λ e. c .if6 .taken (omega arith))
 
 returns-7 : tie.Need-returns-7
 returns-7 c = refused-before _ _ (omega arith) (omega arith) (sym (c .before .before .before .before .before .before .before .wrong-end .ensures) ∙ c .before .before .before .before .before .before .if4 .left) (omega arith) (omega arith) (omega arith)
