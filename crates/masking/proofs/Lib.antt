@@ -1,6 +1,8 @@
+pub mod ContractLaws
 pub mod CallLaws
+pub mod RunLaws
 pub mod EnvironmentLaws
 pub mod ReplayLaws
-pub mod RunLaws
 pub mod Demand
 pub mod Examples
+pub mod Bounds
