@@ -24,10 +24,7 @@ use Rattle.usn_carver.specs.Masking.{nameOf}
 use Rattle.usn_carver.proofs.Examples.{overlap-first, overlap-masked}
 use Rattle.masking.specs.Demand.{imageNames, journalNames, SharedRecords, scanner, carver, scanPlaces, carverPlaces, Share}
 use Rattle.masking.proofs.Examples.{list}
-
--- a list of bytes beside itself
-unchanged : (s : List ℕ) (ps : List Place) → Masked s s ps
-unchanged s ps = record { long = refl; same = λ i _. refl }
+use Rattle.masking.proofs.Sample.{unchanged}
 
 -- A record whose name begins at 40, inside the fixed part, where its reason stands. Units replaced in that name make it another record: were names
 -- replaced wherever they begin, the records would not be shared.

@@ -29,13 +29,23 @@ pub same-kept : (st : State) (i : ℕ) → set (st .tables) i (keptAt i st) ≡ 
 same-kept st i = set-getD (st .tables) i (kept [] 0 0)
 
 module _ (s : Sources) (st : State) (i : ℕ) where
-  -- a call that stores, by what its contract says
-  stored-as : (o : Outcome Table) (r : Stored) (words′ : List ℕ) → Stores o (getD (st .tables) i (kept [] 0 0) .words) r words′ → stored i st o ≡ storedAs s st i r words′
+  abbrev words : List ℕ
+  words = getD (st .tables) i (kept [] 0 0) .words
+
+  -- a call that stores, by what its contract says: where it is answered, and where it is refused
+  stored-answered : (t : Table) (r : Stored) (words′ : List ℕ) → Stores (answered t) words r words′ → stored i st (answered t) ≡ storedAs s st i r words′
   unfolding stored
-  stored-as (answered t) (Used m) words′ h = let e = h .answer in let f = h .slots-are in let k : m ≡ t .used = cc in rw (f, k) refl
-  stored-as (refused n) (Used m) words′ h = let e = h .answer in let z : _≡_ {A = ℕ} 0 1 = cc in absurd (omega arith)
-  stored-as (refused n) (Refused m) words′ h = let e = h .answer in let f = h .slots-are in let k : m ≡ n = cc in rw (f, k) refl
-  stored-as (answered t) (Refused m) words′ h = let e = h .answer in let z : _≡_ {A = ℕ} 0 1 = cc in absurd (omega arith)
+  stored-answered t (Used m) words′ h = let e = h .answer in let k : m ≡ t .used = cc in rw (h .slots-are, k) refl
+  stored-answered t (Refused m) words′ h = let e = h .answer in let z : _≡_ {A = ℕ} 0 1 = cc in absurd (omega arith)
+
+  stored-refused : (n : ℕ) (r : Stored) (words′ : List ℕ) → Stores (refused n) words r words′ → stored i st (refused n) ≡ storedAs s st i r words′
+  unfolding stored
+  stored-refused n (Used m) words′ h = let e = h .answer in let z : _≡_ {A = ℕ} 0 1 = cc in absurd (omega arith)
+  stored-refused n (Refused m) words′ h = let e = h .answer in let k : m ≡ n = cc in rw (h .slots-are, k) refl
+
+  stored-as : (o : Outcome Table) (r : Stored) (words′ : List ℕ) → Stores o words r words′ → stored i st o ≡ storedAs s st i r words′
+  stored-as (refused n) r words′ h = stored-refused n r words′ h
+  stored-as (answered t) r words′ h = stored-answered t r words′ h
 
   pub insert-is : InsertIs s st i
   insert-is k e r words′ h = stored-as _ r words′ h
@@ -50,17 +60,29 @@ module _ (s : Sources) (st : State) (i : ℕ) where
   seed-from-carved-is es r words′ h =
       rw (seeding-carved (lengthsOf (s .journal) (s .image)) (table (keptAt i st .words) (keptAt i st .used)) es) (stored-as _ r words′ h)
 
+  -- a start, where it is answered and where it is refused
+  module _ (j : ℕ) (first′ words′ : List ℕ) where
+    start-answered : (ts : Tables) (r : Started) → startOutcome r ≡ answered (begun ts) → first′ ≡ ts .first .words → words′ ≡ ts .forward .words
+        → startResult i j st (answered ts) ≡ startedAs s st i j r first′ words′
+    unfolding startResult
+    start-answered ts (started.Begun q) e f g = let k : q ≡ begun ts = cc in rw (f, g, k) refl
+    start-answered ts (started.Refused m) e f g = let z : _≡_ {A = ℕ} 0 1 = cc in absurd (omega arith)
+
+    start-refused : (n : ℕ) (r : Started) → startOutcome r ≡ refused n → first′ ≡ keptAt i st .words → words′ ≡ keptAt j st .words
+        → startResult i j st (refused n) ≡ startedAs s st i j r first′ words′
+    unfolding startResult
+    start-refused n (started.Begun q) e f g = let z : _≡_ {A = ℕ} 0 1 = cc in absurd (omega arith)
+    start-refused n (started.Refused m) e f g = let k : m ≡ n = cc in rw (f, g, k) refl
+
+    start-as : (o : Outcome Tables) (r : Started) → startOutcome r ≡ mapOutcome begun o → first′ ≡ firstAfter o (keptAt i st .words)
+        → words′ ≡ forwardAfter o (keptAt j st .words) → startResult i j st o ≡ startedAs s st i j r first′ words′
+    start-as (refused n) r e f g = start-refused n r e f g
+    start-as (answered ts) r e f g = start-answered ts r e f g
+
   pub start-is : (j : ℕ) → StartIs s st i j
-  unfolding startResult
   start-is j r first′ words′ h =
-      go (startOut (s .journal) (s .image) (s .records) (table (keptAt i st .words) (keptAt i st .used)) (keptAt j st .words)) r (h .answer) (h .first) (h .forward)
-    where
-      go : (o : Outcome Tables) (r : Started) → startOutcome r ≡ mapOutcome begun o → first′ ≡ firstAfter o (keptAt i st .words)
-          → words′ ≡ forwardAfter o (keptAt j st .words) → startResult i j st o ≡ startedAs s st i j r first′ words′
-      go (answered ts) (started.Begun q) e f g = let k : q ≡ begun ts = cc in rw (f, g, k) refl
-      go (refused n) (started.Begun q) e f g = let z : _≡_ {A = ℕ} 0 1 = cc in absurd (omega arith)
-      go (refused n) (started.Refused m) e f g = let k : m ≡ n = cc in rw (f, g, k) refl
-      go (answered ts) (started.Refused m) e f g = let z : _≡_ {A = ℕ} 0 1 = cc in absurd (omega arith)
+      let o = startOut (s .journal) (s .image) (s .records) (table (keptAt i st .words) (keptAt i st .used)) (keptAt j st .words) in
+      start-as j first′ words′ o r (h .answer) (h .first) (h .forward)
 
   pub next-is : NextIs s st i
   unfolding nextResult

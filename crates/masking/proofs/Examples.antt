@@ -58,43 +58,41 @@ use Rattle.masking.specs.Calls.{sources, kept, State, keptAt, plain, nex
 use Rattle.masking.specs.Calls as call
 use Rattle.masking.specs.Demand.{imageNames, journalNames, scanner, carver, window, scanPlaces, carverPlaces, windowPlaces, Share}
 use Rattle.masking.proofs.Demand.{names-decide-nothing}
+use Rattle.masking.proofs.Sample.{image}
 
 -- run one's journal, a record named ab, and run two's, whose first unit is a euro sign, which takes two bytes more in UTF-8
-abbrev journal : List ℕ
+abbrev pub journal : List ℕ
 journal = recordE
 
-abbrev journal′ : List ℕ
+abbrev pub journal′ : List ℕ
 journal′ = sampleRecord 0x20AC 0x62
 
 pub journals-differ : journal′ ≡ journal → ⊥
 journals-differ e = let z : _≡_ {A = ℕ} 0xAC 0x61 = ap (λ (s : List ℕ). getD s 60 0) e in omega arith
 
 -- images of one entry, named abc and xyz
-abbrev image : List ℕ → List ℕ
-image name = (header 3 48 ++ leBytes 4 42 ++ beforeName 1) ++ (name ++ (last ++ replicate 876 0))
-
-abbrev xyz : List ℕ
+abbrev pub xyz : List ℕ
 xyz = leBytes 2 0x78 ++ leBytes 2 0x79 ++ leBytes 2 0x7A
 
 -- with lists of one record and of one entry
 abbrev pub list : List ℕ
 list = 0 ∷ 0 ∷ []
 
-abbrev entries : List ℕ
+abbrev pub entries : List ℕ
 entries = replicate 9 0
 
-image-names : imageNames (image abc) entries ≡ record { offset = 138; length = 6 } ∷ []
+pub image-names : imageNames (image abc) entries ≡ record { offset = 138; length = 6 } ∷ []
 unfolding imageCarving from walk imageVisit hasSignature entryJudged filenameIn attributeVisit attributeAt given keep replaces referenceOf leAt le
 image-names = refl
 
-images-masked : Masked (image abc) (image xyz) (imageNames (image abc) entries)
+pub images-masked : Masked (image abc) (image xyz) (imageNames (image abc) entries)
 images-masked = rw image-names (masked-middle (header 3 48 ++ leBytes 4 42 ++ beforeName 1) abc xyz (last ++ replicate 876 0) refl)
 
 -- the name of the one record
-abbrev name : List Place
+abbrev pub name : List Place
 name = record { offset = 60; length = 4 } ∷ []
 
-masked : Masked journal journal′ name
+pub masked : Masked journal journal′ name
 masked = masked-middle createdFixed (leBytes 2 0x61 ++ leBytes 2 0x62) (leBytes 2 0x20AC ++ leBytes 2 0x62) [] refl
 
 -- the scan
