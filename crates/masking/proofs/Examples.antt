@@ -18,10 +18,10 @@ use Rattle.usn_record.specs.Names.{nameAt}
 use Rattle.usn_record.specs.Record.{recordOf, parsed, listed}
 use Rattle.usn_record.specs.Sample.{createdFixed, sampleRecord, recordE}
 use Rattle.usn_journal.specs.Scan.{kindByVersion, kindOf, visit, scanned}
-use Rattle.usn_journal.specs.Outcome.{scan}
+use Rattle.usn_journal.specs.Outcome.{scan, scanAnswer, scanList}
 use Rattle.usn_carver.specs.Settings.{standard}
 use Rattle.usn_carver.specs.Events.{carved}
-use Rattle.usn_carver.specs.Carve.{judged, visitAs, carving, visit as carverVisit}
+use Rattle.usn_carver.specs.Carve.{judged, visitAs, carving, carvingList, visit as carverVisit}
 use Rattle.usn_carver.specs.Masking.{NoOverlap, IfAnswered}
 use Rattle.usn_carver.proofs.Examples.{E-carved}
 use Rattle.usn_reader.specs.Window.{windowSize, wrongEnd, wrongNumbers, refusalOf, wantedOf}
@@ -34,20 +34,24 @@ use Rattle.usn_reader.proofs.TwoRuns.{fresh-filled}
 use Rattle.mft_carver.specs.Filename.{replaces, keep}
 use Rattle.mft_carver.specs.Attributes.{given, attributeAt, filenameIn, visit as attributeVisit}
 use Rattle.mft_carver.specs.Entry.{hasSignature, judged as entryJudged}
-use Rattle.mft_carver.specs.Carve.{visit as imageVisit, carving as imageCarving}
+use Rattle.mft_carver.specs.Carve.{visit as imageVisit, carving as imageCarving, carvingList as imageList}
+use Rattle.mft_carver.specs.Settings.{standard as imageStandard}
+use Rattle.mft_carver.specs.Masking.{carvedEntries}
 use Rattle.mft_carver.specs.Sample.{header, beforeName, abc, last}
 use Rattle.utf16.specs.Utf16.{alone, codePoints, unitsAt}
 use Rattle.utf16.specs.Utf8.{utf8}
 use Rattle.utf16.specs.Text.{decoded}
-use Rattle.entry_slots.specs.Names.{inside}
+use Rattle.entry_slots.specs.Names.{lengths, lengthsOf, inside}
 use Rattle.entry_slots.specs.Slots.{sameKey, putAt, findFrom, rows}
-use Rattle.entry_slots.specs.Table.{addFound}
+use Rattle.entry_slots.specs.Table.{Table, addFound}
 use Rattle.additions.specs.Storing.{addAll, newKeys, adding}
+use Rattle.entry_slots.specs.declared.EntryKey.{EntryKey}
 use Rattle.entry_slots.specs.declared.NamePlace.{NamePlace}
 use Rattle.chain.specs.Chain.{isRoot, chain}
-use Rattle.chain.specs.Tracing.{inDomain, listed as listedChain}
+use Rattle.chain.specs.Tracing.{inDomain, tracing, chainAfter, listed as listedChain}
 use Rattle.path.specs.Text.{endText, placeText, stepText, pathText}
-use Rattle.path.specs.Telling.{placing, decoding}
+use Rattle.path.specs.Alike.{Alike}
+use Rattle.path.specs.Telling.{telling, placing, decoding}
 use Rattle.additions.specs.Entries.{hasReason, entryFrom}
 use Rattle.walk.specs.Lists.{every}
 use Rattle.rewind_records.specs.Environment.{refusalOf as rewindRefusal}
@@ -56,7 +60,7 @@ use Rattle.rewind_records.specs.Turning.{turning}
 use Rattle.rewind_steps.specs.Telling.{recordText}
 use Rattle.masking.specs.Calls.{sources, kept, State, keptAt, plain, nextText, start, Result, startResult, nextResult, Done, results, struck, plainsOf, resultsOf}
 use Rattle.masking.specs.Calls as call
-use Rattle.masking.specs.Demand.{imageNames, journalNames, scanner, carver, window, scanPlaces, carverPlaces, windowPlaces, Share}
+use Rattle.masking.specs.Demand.{imageNames, journalNames, SharedRecords, scanner, carver, window, scanPlaces, carverPlaces, windowPlaces, Share}
 use Rattle.masking.proofs.Demand.{names-decide-nothing}
 use Rattle.masking.proofs.Sample.{image}
 
@@ -194,3 +198,33 @@ positions = refl
 -- and what is left of run two is the same, though it took a call more
 pub rewound : resultsOf (struck two) ≡ resultsOf (struck one)
 rewound = scan-runs .later .calls empty (plain (start 0 1) ∷ nextText 1 4 ∷ []) (plain (start 0 1) ∷ nextText 1 4 ∷ nextText 1 6 ∷ []) (left-two ∙ sym left-one)
+
+-- What the runs share, written out: by the image carver, by the scan and the carver with their lists, and by paths, chains and names over any table.
+pub image-written : (imageCarving imageStandard (image xyz) 9 ≡ imageCarving imageStandard (image abc) 9)
+    × ((imageList imageStandard (image xyz) entries ≡ imageList imageStandard (image abc) entries)
+    × (carvedEntries imageStandard (image xyz) 9 ≡ carvedEntries imageStandard (image abc) 9))
+image-written = (scan-runs .imageCarver .outcome, (scan-runs .imageCarver .words, scan-runs .imageCarver .carved))
+
+pub scan-written : (scanAnswer journal′ 2 ≡ scanAnswer journal 2) × ((scanList journal′ list ≡ scanList journal list) × (scanPlaces journal′ list ≡ scanPlaces journal list))
+scan-written = (scan-runs .reader .answer, (scan-runs .reader .words, scan-runs .listed-same))
+
+scan-listed : scanPlaces journal list ≡ record { offset = 0; length = 64 } ∷ []
+unfolding scan scanned from walk visit kindOf kindByVersion leAt le
+scan-listed = refl
+
+pub record-written : listed journal′ 0 ≡ listed journal 0
+record-written = let k : SharedRecords journal journal′ (record { offset = 0; length = 64 } ∷ []) = rw scan-listed at (scan-runs .records) in k .0
+
+pub carver-written : (carving standard journal′ 2 ≡ carving standard journal 2)
+    × ((carvingList standard journal′ list ≡ carvingList standard journal list) × (carverPlaces journal′ list ≡ carverPlaces journal list))
+carver-written = (carver-runs .reader .answer, (carver-runs .reader .words, carver-runs .listed-same))
+
+module _ (u : Table) (depth : ℕ) (k : EntryKey) where
+  pub path-written : (room room′ : ℕ) → Alike (tracing (lengths 64 1024) u depth k) (telling journal (image abc) u depth k room) (telling journal′ (image xyz) u depth k room′)
+  path-written room room′ = scan-runs .later .path u depth k room room′
+
+  pub chain-written : (l : List ℕ) → chainAfter (tracing (lengthsOf journal′ (image xyz)) u depth k) l ≡ chainAfter (tracing (lengthsOf journal (image abc)) u depth k) l
+  chain-written l = scan-runs .later .chainList u depth k l
+
+pub decode-written : (p : NamePlace) (room room′ : ℕ) → Alike (placing (lengths 64 1024) p) (decoding journal (image abc) p room) (decoding journal′ (image xyz) p room′)
+decode-written p room room′ = scan-runs .later .decode p room room′

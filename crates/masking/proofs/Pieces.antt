@@ -11,7 +11,7 @@ use Rattle.usn_record.specs.Sample.{sampleRecord}
 use Rattle.usn_reader.specs.Window.{windowSize, wrongEnd, wrongNumbers, refusalOf, wantedOf}
 use Rattle.usn_reader.specs.Rule.{namedFrom, byLength, turnOf, turns, searched}
 use Rattle.usn_reader.specs.Calls.{nextOf, giveRefusal, giveOf}
-use Rattle.usn_reader.specs.Run.{Call, next, give, stateAfter, readingOf, bufferOf, givenBy, freshOver, AllCarry, shapes}
+use Rattle.usn_reader.specs.Run.{Call, next, give, stateAfter, readingOf, bufferOf, givenBy, readings, freshOver, AllCarry, shapes}
 use Rattle.usn_reader.specs.declared.Reading.{Reading}
 use Rattle.usn_reader.proofs.RunLaws.{journalReading, journalReadings, run-journal}
 use Rattle.usn_reader.proofs.TwoRuns.{fresh-filled}
@@ -63,3 +63,7 @@ module _ (b c : List ℕ) (eb : length b ≡ windowSize) (ec : length c ≡ wind
         journals = rw names masked;
         asked = record { whole = eb; whole′ = ec; alike = refl; carries = carries 0x61 b eb; carries′ = carries 0x20AC c ec };
       })
+
+  -- what they share, written out
+  pub window-written : readings (pieces journal′) (freshOver journal′ c) ≡ readings (pieces journal) (freshOver journal b)
+  window-written = piece-runs .reader .answers

@@ -52,7 +52,7 @@ abbrev pub rewindBy : Rewind → Started → Rewind
 rewindBy r (started.Begun q) = q
 rewindBy r (started.Refused n) = r
 
--- what the answer of a next says, as the two calls tell it: the names and the end of the chain, with the length of the text
+-- what a next answers, and as the two calls tell it: by the number of names and the end of the chain, and by the length of the text too
 abbrev pub nextOf : Answer → Next Step
 nextOf (used n) = ended
 nextOf (begun r) = ended
@@ -86,7 +86,7 @@ abbrev pub refusalIn : List Done → ℕ
 refusalIn [] = 0
 refusalIn (d ∷ ds) = refusalOr (refusalIn ds) (d .result .outcome)
 
--- over the sources s, from the state st, with the tables i and j of it
+-- over the sources s, from the state st, on table i of it
 module _ (s : Sources) (st : State) (i : ℕ) where
   abbrev here : Kept
   here = getD (st .tables) i (kept [] 0 0)
@@ -175,8 +175,9 @@ module _ (s : Sources) (st : State) (i : ℕ) where
       → PathSteps (s .journal) (s .image) (toldIn (length text)) rewind (here .words) (st .chain) text r words′ list′ text′
       → NextTextAs (length text) r words′ list′ (resultOf s (nextText i (length text)) st)
 
-  -- A run of steps stands in the list as nexts with text, each with the room that the texts before it leave. It has no chain list: one of no words
-  -- stands for it. It gives as many records as they do, and has the refusal of the one that is refused.
+  -- A run of steps stands in the list as nexts with text, each with the room that the texts before it leave, up to the one that is refused or finds no
+  -- record. It has no chain list: one of no words stands for it. It gives as many records as they do, and has the refusal of the one that is
+  -- refused.
   pub record RunAs (r : RewindRun) (words′ : List ℕ) (cs : List Call) : Type 0 where
     pub gives : r .steps ≡ recordsIn (results s cs st)
     pub refuses : r .refusal ≡ refusalIn (results s cs st)
