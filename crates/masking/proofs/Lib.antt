@@ -1,6 +1,12 @@
+pub mod ContractLaws
+pub mod Sample
+pub mod CallTable
 pub mod CallLaws
+pub mod RunLaws
 pub mod EnvironmentLaws
 pub mod ReplayLaws
-pub mod RunLaws
 pub mod Demand
 pub mod Examples
+pub mod Pieces
+pub mod ListRuns
+pub mod Bounds

@@ -20,7 +20,8 @@ use Rattle.rewind_records.specs.Turning.{Next}
 use Rattle.rewind_steps.specs.Taking.{Step}
 use Rattle.rewind.specs.Stepping.{forwardTable, stepping, stepped}
 use Rattle.rewind_steps.specs.Telling.{nextText as textOf}
-use Rattle.masking.specs.Calls.{Sources, State, tableOf, Plain, insert, insertIfAbsent, seed, start, next, Call, plain, nextText, Result, stored, startResult, nextResult, plainResult, rewindOf, Done, results, struck, plainsOf, resultsOf}
+use Rattle.masking.specs.Calls.{Sources, State, keptAt, tableOf, rewindOf, Plain, insert, insertIfAbsent, seed, start, next, hand, lend, Call, plain, nextText, Result, stored, startResult, nextResult, handed, lent, plainResult, Done, results, struck, plainsOf, resultsOf}
+use Rattle.masking.proofs.CallLaws.{next-stays}
 
 -- calls without text, one after the other
 abbrev pub replay : Sources → List Plain → State → List Result
@@ -36,27 +37,29 @@ one-more : (s : Sources) (st : State) (p : Plain) (r : Result) (rs : List Result
 one-more s st p r rs ps e f = rw e (ap (λ (xs : List Result). r ∷ xs) f)
 
 -- a next with text beside the one without: the same, or struck out with the state as it was
-next-replayed : (s : Sources) (room : ℕ) (st : State) (rest : State → List Done) (o o′ : Outcome (Next Step)) → plainResult s next st ≡ nextResult st o
-    → Beside o o′ → ((u : State) → Replayed s u (rest u)) → Replayed s st (record { call = nextText room; result = nextResult st o′ } ∷ rest (nextResult st o′ .after))
+next-replayed : (s : Sources) (i room : ℕ) (st : State) (rest : State → List Done) (o o′ : Outcome (Next Step)) → plainResult s (next i) st ≡ nextResult i st o
+    → Beside o o′ → ((u : State) → Replayed s u (rest u)) → Replayed s st (record { call = nextText i room; result = nextResult i st o′ } ∷ rest (nextResult i st o′ .after))
 unfolding nextResult
-next-replayed s room st rest (refused n) o′ e b ih =
+next-replayed s i room st rest (refused n) o′ e b ih =
+    let u = nextResult i st (refused n) .after in
+    let stays : u ≡ st = next-stays i st (refused n) refl in
     rw b
-    (cond-cases (λ (ds : List Done). resultsOf ds ≡ replay s (plainsOf ds) st) (eqb n textFull) (λ _. ih st)
-    (λ _. one-more s st next (nextResult st (refused n)) (resultsOf (struck (rest st))) (plainsOf (struck (rest st))) e (ih st)))
-next-replayed s room st rest (answered x) o′ e b ih =
+    (cond-cases (λ (ds : List Done). resultsOf ds ≡ replay s (plainsOf ds) st) (eqb n textFull) (λ _. rw stays (ih st))
+    (λ _. one-more s st (next i) (nextResult i st (refused n)) (resultsOf (struck (rest u))) (plainsOf (struck (rest u))) e (ih u)))
+next-replayed s i room st rest (answered x) o′ e b ih =
     ⊎-elim
     (λ f.
-    let u = nextResult st (answered x) .after in
-    rw f (one-more s st next (nextResult st (answered x)) (resultsOf (struck (rest u))) (plainsOf (struck (rest u))) e (ih u)))
-    (λ f. rw f (ih st))
+    let u = nextResult i st (answered x) .after in
+    rw f (one-more s st (next i) (nextResult i st (answered x)) (resultsOf (struck (rest u))) (plainsOf (struck (rest u))) e (ih u)))
+    (λ f. rw f (rw (next-stays i st (refused textFull) refl) (ih st)))
     b
 
 replayed : (s : Sources) (cs : List Call) (st : State) → Replayed s st (results s cs st)
 replayed s [] st = refl
 replayed s (plain p ∷ cs) st = ap (λ (rs : List Result). plainResult s p st ∷ rs) (replayed s cs (plainResult s p st .after))
-replayed s (nextText room ∷ cs) st =
-    let o = stepped (s .journal) (s .image) (s .records) (st .forward .words) (rewindOf st) in
-    next-replayed s room st (results s cs) o _ refl (with-text (textOf (s .journal) (s .image)) room o) (replayed s cs)
+replayed s (nextText i room ∷ cs) st =
+    let o = stepped (s .journal) (s .image) (s .records) (keptAt i st .words) (rewindOf (keptAt i st)) in
+    next-replayed s i room st (results s cs) o _ refl (with-text (textOf (s .journal) (s .image)) room o) (replayed s cs)
 
 -- what a run's calls know of its sources
 abbrev pub knowledge : Sources → Environment
@@ -64,18 +67,22 @@ knowledge s = environmentOf (s .journal) (s .image) (s .records)
 
 -- a call without text, by that alone
 abbrev known : Environment → Plain → State → Result
-known env (insert w k e) st = stored w st (inserting (env .lengths) (tableOf w st) k e true)
-known env (insertIfAbsent w k e) st = stored w st (inserting (env .lengths) (tableOf w st) k e false)
-known env (seed w es) st = stored w st (seeding (env .lengths) (tableOf w st) es)
-known env start st = startResult st (starting env (st .first) (st .forward .words))
-known env next st = nextResult st (stepping env (forwardTable (st .forward .words) (rewindOf st)) depth (st .position))
+known env (insert i k e) st = stored i st (inserting (env .lengths) (tableOf (keptAt i st)) k e true)
+known env (insertIfAbsent i k e) st = stored i st (inserting (env .lengths) (tableOf (keptAt i st)) k e false)
+known env (seed i es) st = stored i st (seeding (env .lengths) (tableOf (keptAt i st)) es)
+known env (start i j) st = startResult i j st (starting env (tableOf (keptAt i st)) (keptAt j st .words))
+known env (next i) st = nextResult i st (stepping env (forwardTable (keptAt i st .words) (rewindOf (keptAt i st))) depth (keptAt i st .position))
+known env (hand i r) st = handed i r st
+known env (lend l) st = lent l st
 
 plain-known : (s : Sources) (p : Plain) (st : State) → plainResult s p st ≡ known (knowledge s) p st
-plain-known s (insert w k e) st = refl
-plain-known s (insertIfAbsent w k e) st = refl
-plain-known s (seed w es) st = refl
-plain-known s start st = refl
-plain-known s next st = refl
+plain-known s (insert i k e) st = refl
+plain-known s (insertIfAbsent i k e) st = refl
+plain-known s (seed i es) st = refl
+plain-known s (start i j) st = refl
+plain-known s (next i) st = refl
+plain-known s (hand i r) st = refl
+plain-known s (lend l) st = refl
 
 module _ (s t : Sources) (same : knowledge t ≡ knowledge s) where
   pub plain-same : (p : Plain) (st : State) → plainResult t p st ≡ plainResult s p st

@@ -1,11 +1,14 @@
--- Two runs. Run one reads a journal and an image; run two the same bytes, but for units that are replaced, one for one, in names that run one got:
--- from the image carver, or from its reader of the journal past the fixed parts of their records. For each reader, the scan, the carver and the
--- window, one statement: what may differ, and all that both runs share then. What run two reads is primed. Lent lists, keys, places and
--- entries are the same in both runs; texts are free.
+-- Names decide nothing but text: one claim, `NamesDecideNothing`, at the end. Run one reads a journal and an image; run two the same bytes, but for units
+-- that are replaced, one for one, in names that run one got: from the image carver, or from the reader at hand, the scan, the carver or the
+-- window, past the fixed parts of their records. `Differ` says what may differ, `Share` all that both runs share then. What run two reads is
+-- primed. Lent lists, keys, places and entries are the same in both runs; texts are free.
 use Prim.Native.Nat.{ℕ}
 use mathlib.Core.Path.{_≡_}
 use mathlib.Core.List.{List}
+use mathlib.Core.Bool.{true}
 use lib.ListN.{length}
+use Rattle.walk.specs.Outcome.{refused}
+use Rattle.walk.specs.Refusals.{textFull}
 use Rattle.walk.specs.Lists.{All}
 use Rattle.walk.specs.Masked.{Masked, placesOf}
 use Rattle.walk.specs.declared.Place.{Place}
@@ -29,7 +32,8 @@ use Rattle.chain.specs.Tracing.{tracing, chainAfter}
 use Rattle.path.specs.Alike.{Alike}
 use Rattle.path_text.specs.Decoding.{placing, decoding}
 use Rattle.path.specs.Telling.{telling}
-use Rattle.masking.specs.Calls.{Sources, sources, State, Call, results, struck, plainsOf, resultsOf}
+use Rattle.masking.specs.Calls.{Sources, sources, State, Call, resultOf, results, isStruck, struck, plainsOf, resultsOf}
+use Rattle.masking.specs.Contracts.{ListsAreCalls}
 
 -- the names that the image carver of run one got with this list: those of the entries that it listed, none where it was refused
 abbrev pub imageNames : List ℕ → List ℕ → List Place
@@ -49,12 +53,20 @@ pub record SharedImage (image image′ entries : List ℕ) : Type 0 where
 abbrev pub SharedRecords : List ℕ → List ℕ → List Place → Type 0
 SharedRecords journal journal′ places = All (λ (p : Place). listed journal′ (p .offset) ≡ listed journal (p .offset)) places
 
--- what comes after the readers, over the sources s in run one and t in run two
+-- what is struck out of a list of calls: what 8 refused, all of that and nothing else, and each leaves the state as it was
+pub record Strikes (s : Sources) : Type 0 where
+  pub full : (c : Call) (st : State) → isStruck c (resultOf s c st .outcome) ≡ true → resultOf s c st .outcome ≡ refused textFull
+  pub all : (c : Call) (st : State) → resultOf s c st .outcome ≡ refused textFull → isStruck c (resultOf s c st .outcome) ≡ true
+  pub stays : (c : Call) (st : State) → isStruck c (resultOf s c st .outcome) ≡ true → resultOf s c st .after ≡ st
+
+-- what comes after the reader, over the sources s in run one and t in run two
 pub record Shared (s t : Sources) : Type 0 where
   -- From any one state, by any list of calls in each run: if the same calls are left once the nexts that 8 refused are struck out, then every
   -- result that is left is the same, outcome and state after it.
   pub calls : (st : State) (cs ds : List Call) → plainsOf (struck (results t ds st)) ≡ plainsOf (struck (results s cs st))
       → resultsOf (struck (results t ds st)) ≡ resultsOf (struck (results s cs st))
+  pub strikes : Strikes s
+  pub strikes′ : Strikes t
   -- a path, with any two texts: refused the same, or both have the one chain with its end, unless 8 refuses it
   pub path : (u : Table) (depth : ℕ) (k : EntryKey) (room room′ : ℕ)
       → Alike (tracing (lengthsOf (s .journal) (s .image)) u depth k) (telling (s .journal) (s .image) u depth k room) (telling (t .journal) (t .image) u depth k room′)
@@ -66,78 +78,83 @@ pub record Shared (s t : Sources) : Type 0 where
   pub decode : (p : NamePlace) (room room′ : ℕ)
       → Alike (placing (lengthsOf (s .journal) (s .image)) p) (decoding (s .journal) (s .image) p room) (decoding (t .journal) (t .image) p room′)
 
--- The scan, with a list.
+-- The reader at hand: the scan or the carver, with a list, or the window, with a buffer and a list of its calls in each run.
+pub data Reader : Type 0 where
+  scanner : List ℕ → Reader
+  carver : List ℕ → Reader
+  window : List ℕ → List ℕ → List WindowCall → List WindowCall → Reader
+
+-- what each lists: the window what it gave, in order, from a fresh one of the journal's length
 abbrev pub scanPlaces : List ℕ → List ℕ → List Place
 scanPlaces journal list = listing (scan journal (length list))
 
--- what may differ
-pub record ScanRuns (journal journal′ image image′ list entries : List ℕ) : Type 0 where
-  pub images : Masked image image′ (imageNames image entries)
-  pub journals : Masked journal journal′ (journalNames journal (scanPlaces journal list))
-
--- what is shared
-pub record ScanShares (journal journal′ image image′ list entries : List ℕ) : Type 0 where
-  pub imageCarver : SharedImage image image′ entries
-  -- the number of records or the refusal, every word of the list, the listed places and their records
-  pub answer : scanAnswer journal′ (length list) ≡ scanAnswer journal (length list)
-  pub words : scanList journal′ list ≡ scanList journal list
-  pub places : scanPlaces journal′ list ≡ scanPlaces journal list
-  pub records : SharedRecords journal journal′ (scanPlaces journal list)
-  -- and all that comes after it, each run over its own list
-  pub later : Shared (sources journal image (scanPlaces journal list)) (sources journal′ image′ (scanPlaces journal′ list))
-
-abbrev pub ScanDemand : Type 0
-ScanDemand = (journal journal′ image image′ list entries : List ℕ)
-    → ScanRuns journal journal′ image image′ list entries → ScanShares journal journal′ image image′ list entries
-
--- The carver, with a list.
 abbrev pub carverPlaces : List ℕ → List ℕ → List Place
 carverPlaces journal list = carvedRecords standard journal (length list)
 
--- what may differ: in an answered call of run one, no version 2 record that it carves begins 8 bytes after a version 3 candidate that it rejects
-pub record CarverRuns (journal journal′ image image′ list entries : List ℕ) : Type 0 where
-  pub images : Masked image image′ (imageNames image entries)
-  pub journals : Masked journal journal′ (journalNames journal (carverPlaces journal list))
-  pub apart : IfAnswered (carving standard journal (length list)) (NoOverlap (events standard journal))
-
--- what is shared
-pub record CarverShares (journal journal′ image image′ list entries : List ℕ) : Type 0 where
-  pub imageCarver : SharedImage image image′ entries
-  -- all counters or the refusal, every word of the list, the listed places and their records
-  pub answer : carving standard journal′ (length list) ≡ carving standard journal (length list)
-  pub words : carvingList standard journal′ list ≡ carvingList standard journal list
-  pub places : carverPlaces journal′ list ≡ carverPlaces journal list
-  pub records : SharedRecords journal journal′ (carverPlaces journal list)
-  pub later : Shared (sources journal image (carverPlaces journal list)) (sources journal′ image′ (carverPlaces journal′ list))
-
-abbrev pub CarverDemand : Type 0
-CarverDemand = (journal journal′ image image′ list entries : List ℕ)
-    → CarverRuns journal journal′ image image′ list entries → CarverShares journal journal′ image image′ list entries
-
--- The window, by any list of its calls from a fresh one of the journal's length: its list is what it gave, in order.
 abbrev pub windowPlaces : List ℕ → List ℕ → List WindowCall → List Place
 windowPlaces journal buffer cs = givenBy (readings cs (freshOver journal buffer))
 
--- what may differ: the bytes of the buffers at the start, and what is given. The calls are the same, with buffers of the same lengths, and give
--- as many bytes; givings that are accepted carry, one after another, each run's own journal from where each refill began, and refused ones anything.
-pub record WindowRuns (journal journal′ image image′ entries buffer buffer′ : List ℕ) (cs ds : List WindowCall) : Type 0 where
-  pub images : Masked image image′ (imageNames image entries)
-  pub journals : Masked journal journal′ (journalNames journal (windowPlaces journal buffer cs))
+-- in run one and in run two
+abbrev pub places : Reader → List ℕ → List Place
+places (scanner list) journal = scanPlaces journal list
+places (carver list) journal = carverPlaces journal list
+places (window buffer buffer′ cs ds) journal = windowPlaces journal buffer cs
+
+abbrev pub places′ : Reader → List ℕ → List Place
+places′ (scanner list) journal′ = scanPlaces journal′ list
+places′ (carver list) journal′ = carverPlaces journal′ list
+places′ (window buffer buffer′ cs ds) journal′ = windowPlaces journal′ buffer′ ds
+
+-- what may differ in the window's runs: the bytes of the buffers at the start, and what is given. The calls are the same, with buffers of the same
+-- lengths, and give as many bytes; givings that are accepted carry, one after another, each run's own journal from where each refill began, and refused
+-- ones anything.
+pub record WindowRuns (journal journal′ buffer buffer′ : List ℕ) (cs ds : List WindowCall) : Type 0 where
   pub whole : length buffer ≡ windowSize
   pub whole′ : length buffer′ ≡ windowSize
   pub alike : shapes ds ≡ shapes cs
   pub carries : Delivery journal buffer cs
   pub carries′ : Delivery journal′ buffer′ ds
 
--- what is shared
-pub record WindowShares (journal journal′ image image′ entries buffer buffer′ : List ℕ) (cs ds : List WindowCall) : Type 0 where
-  pub imageCarver : SharedImage image image′ entries
-  -- of every call the answer, refusals included, and the window after it; the places that were given and their records
-  pub answers : readings ds (freshOver journal′ buffer′) ≡ readings cs (freshOver journal buffer)
-  pub places : windowPlaces journal′ buffer′ ds ≡ windowPlaces journal buffer cs
-  pub records : SharedRecords journal journal′ (windowPlaces journal buffer cs)
-  pub later : Shared (sources journal image (windowPlaces journal buffer cs)) (sources journal′ image′ (windowPlaces journal′ buffer′ ds))
+-- what is asked of the reader besides: of the carver that in an answered call of run one no version 2 record that it carves begins 8 bytes after a
+-- version 3 candidate that it rejects
+abbrev pub Asked : Reader → List ℕ → List ℕ → Type 0
+Asked (scanner list) journal journal′ = Unit {0}
+Asked (carver list) journal journal′ = IfAnswered (carving standard journal (length list)) (NoOverlap (events standard journal))
+Asked (window buffer buffer′ cs ds) journal journal′ = WindowRuns journal journal′ buffer buffer′ cs ds
 
-abbrev pub WindowDemand : Type 0
-WindowDemand = (journal journal′ image image′ entries buffer buffer′ : List ℕ) (cs ds : List WindowCall)
-    → WindowRuns journal journal′ image image′ entries buffer buffer′ cs ds → WindowShares journal journal′ image image′ entries buffer buffer′ cs ds
+-- what the reader answers: the scan's number of records or its refusal, and every word of its list; the carver's counters or its refusal, and every
+-- word of its list; of every call of the window the answer, refusals included, and the window after it
+pub record ScanShares (journal journal′ list : List ℕ) : Type 0 where
+  pub answer : scanAnswer journal′ (length list) ≡ scanAnswer journal (length list)
+  pub words : scanList journal′ list ≡ scanList journal list
+
+pub record CarverShares (journal journal′ list : List ℕ) : Type 0 where
+  pub answer : carving standard journal′ (length list) ≡ carving standard journal (length list)
+  pub words : carvingList standard journal′ list ≡ carvingList standard journal list
+
+pub record WindowShares (journal journal′ buffer buffer′ : List ℕ) (cs ds : List WindowCall) : Type 0 where
+  pub answers : readings ds (freshOver journal′ buffer′) ≡ readings cs (freshOver journal buffer)
+
+abbrev pub ReaderShares : Reader → List ℕ → List ℕ → Type 0
+ReaderShares (scanner list) journal journal′ = ScanShares journal journal′ list
+ReaderShares (carver list) journal journal′ = CarverShares journal journal′ list
+ReaderShares (window buffer buffer′ cs ds) journal journal′ = WindowShares journal journal′ buffer buffer′ cs ds
+
+-- what may differ
+pub record Differ (r : Reader) (journal journal′ image image′ entries : List ℕ) : Type 0 where
+  pub images : Masked image image′ (imageNames image entries)
+  pub journals : Masked journal journal′ (journalNames journal (places r journal))
+  pub asked : Asked r journal journal′
+
+-- what is shared: by the image carver; by the reader, with its list and the records there; and by all that comes after it, each run over its own list
+pub record Share (r : Reader) (journal journal′ image image′ entries : List ℕ) : Type 0 where
+  pub imageCarver : SharedImage image image′ entries
+  pub reader : ReaderShares r journal journal′
+  pub listed-same : places′ r journal′ ≡ places r journal
+  pub records : SharedRecords journal journal′ (places r journal)
+  pub later : Shared (sources journal image (places r journal)) (sources journal′ image′ (places′ r journal′))
+
+-- The claim, of every reader, with lists of calls that are those of the calls' contracts.
+pub record NamesDecideNothing : Type 0 where
+  pub shares : (r : Reader) (journal journal′ image image′ entries : List ℕ) → Differ r journal journal′ image image′ entries → Share r journal journal′ image image′ entries
+  pub lists : ListsAreCalls

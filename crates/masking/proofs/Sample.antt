@@ -1,0 +1,56 @@
+-- What the examples are made of: records of both versions, images of one entry, and lists of bytes beside themselves.
+use Prim.Native.Nat.{ℕ}
+use mathlib.Core.Path.{refl}
+use mathlib.Core.List.{List, [], _∷_, _++_}
+use lib.ListN.{replicate}
+use Rattle.walk.specs.Masked.{Masked}
+use Rattle.walk.specs.declared.Place.{Place}
+use Rattle.usn_record.specs.Bytes.{leBytes}
+use Rattle.usn_record.specs.Sample.{header, reference}
+use Rattle.mft_carver.specs.Sample.{header as entryHeader, beforeName, last}
+use Rattle.entry_slots.specs.declared.EntryKey.{EntryKey}
+use Rattle.entry_slots.specs.declared.EntryInfo.{EntryInfo}
+use Rattle.entry_slots.specs.declared.NamePlace.{NamePlace}
+
+-- a name of two units, and one of three
+abbrev pub units : ℕ → ℕ → List ℕ
+units a b = leBytes 2 a ++ leBytes 2 b
+
+abbrev pub units3 : ℕ → ℕ → ℕ → List ℕ
+units3 a b c = leBytes 2 a ++ leBytes 2 b ++ leBytes 2 c
+
+-- what follows the references of a record: USN 4096, the start of 2000, a reason, and a name of 4 bytes at an offset
+abbrev fields : ℕ → ℕ → List ℕ
+fields reason nameOffset =
+    leBytes 8 4096
+    ++ (leBytes 8 125911584000000000
+    ++ (leBytes 4 reason ++ (leBytes 4 0 ++ (leBytes 4 0 ++ (leBytes 4 0x20 ++ (leBytes 2 4 ++ leBytes 2 nameOffset))))))
+
+-- the fixed part of a version 2 record of 64 bytes, and of a version 3 record of 80 bytes, whose name follows
+abbrev pub fixed2 : List ℕ → List ℕ → ℕ → List ℕ
+fixed2 file parent reason = header 64 2 ++ (file ++ (parent ++ fields reason 60))
+
+abbrev pub fixed3 : ℕ → ℕ → ℕ → List ℕ
+fixed3 file parent reason = header 80 3 ++ (leBytes 16 file ++ (leBytes 16 parent ++ fields reason 76))
+
+-- an image of one entry, 42:3 in the root, with a name of three units
+abbrev pub image : List ℕ → List ℕ
+image name = (entryHeader 3 48 ++ leBytes 4 42 ++ beforeName 1) ++ (name ++ (last ++ replicate 876 0))
+
+abbrev pub key : ℕ → ℕ → EntryKey
+key entry sequence = record { entry = entry; sequence = sequence }
+
+abbrev pub placed : ℕ → ℕ → ℕ → NamePlace
+placed source offset length = record { source = source; offset = offset; length = length }
+
+-- an entry in the root
+abbrev pub info : ℕ → ℕ → ℕ → EntryInfo
+info source offset length = record { parent = key 5 5; name = placed source offset length }
+
+-- a list of bytes beside itself
+pub unchanged : (s : List ℕ) (ps : List Place) → Masked s s ps
+unchanged s ps = record { long = refl; same = λ i _. refl }
+
+-- what differs in these places differs in one more
+pub one-more : (s t : List ℕ) (p : Place) (ps : List Place) → Masked s t ps → Masked s t (p ∷ ps)
+one-more s t p ps m = record { long = m .long; same = λ i a. m .same i (a .1) }
