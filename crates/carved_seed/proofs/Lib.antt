@@ -5,4 +5,6 @@ pub mod PairLaws
 pub mod SeedLaws
 pub mod Again
 pub mod Called
+pub mod Values
+pub mod Callees
 pub mod FlatLaws

@@ -18,7 +18,7 @@ use Rattle.entry_slots.proofs.RowLaws.{map-rows}
 use Rattle.entry_slots.proofs.NameLaws.{all-inside-at, one-inside}
 use Rattle.additions.specs.Storing.{newIn, fits, namesOf, adding, storing, inserting, usedAfter, wordsAfter}
 use Rattle.additions.proofs.StoringLaws.{adding-full, stored-bad-state, stored-outside, stored-inside}
-use Rattle.additions.proofs.AdditionLaws.{same-addition, AddingRows, rows-start, rows-added, rows-refused, rows-added-all}
+use Rattle.additions.proofs.AdditionLaws.{AddingRows, rows-start, rows-added, rows-refused, rows-added-all}
 use Rattle.entry_table.specs.Promise.{outcome, Stores}
 use Rattle.entry_table.specs.declared.Stored.{Stored}
 use Rattle.carved_seed.proofs.NameLaws.{names-none, names-handed}

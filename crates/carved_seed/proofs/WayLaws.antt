@@ -16,7 +16,6 @@ use Rattle.entry_slots.specs.declared.slots.Found.{Found}
 use Rattle.entry_slots.specs.declared.slots.Found.the-variants.{At, Nothing}
 use Rattle.entry_slots.proofs.NameLaws.{one-inside}
 use Rattle.additions.specs.Carved.{additionOf}
-use Rattle.carved_seed.specs.declared.Seeded.{Seeded}
 use Rattle.carved_seed.specs.declared.room.Pair.{Pair}
 use Rattle.carved_seed.specs.Tests.{stateTested, namesTested}
 use Rattle.carved_seed.specs.Pairs.{pair, firstPair, isKnownAt, nextPair, roomAnswer}

@@ -7,7 +7,7 @@ ghost use Rattle.entry_slots.specs.Slots.{stride, slotsIn};
 ghost use Rattle.entry_slots.specs.Table.{table};
 ghost use Rattle.additions.specs.Carved.{additionOf};
 ghost use Rattle.entry_table.specs.Promise.{outcome};
-ghost use Rattle.carved_seed.specs.Tests.{usedIn, roomTested};
+ghost use Rattle.carved_seed.specs.Tests.{roomTested};
 ghost use Rattle.carved_seed.specs.Pairs.{firstPair, nextPair, isKnownAt, roomAnswer};
 use crate::carved::key_of;
 use crate::used_in;

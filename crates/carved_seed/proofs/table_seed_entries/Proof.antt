@@ -14,26 +14,25 @@ use prog.Memory.{Memory}
 use prog.Routine.{Routine}
 use prog.Wp.{Heap, WpFn, Tables}
 use ghost.Atoms.{Atoms, sem}
-use contract.Monad.{Fun, fact}
+use contract.Monad.{Fun}
 use contract.Running.{givenOf, tables, tablesOf}
-use types.Kit.{Given, Item, ‵, raw, some, later, _⊛_, ⋆, _$_, _∵_, !, qed, by, move, keep, drop, use1, use2, split, join, pick, fsplit, fjoin, feqL, suffices, frame, await, done}
+use types.Kit.{Given, Item, ‵, raw, _⊛_, ⋆, _$_, _∵_, !, qed, by, move, drop, use1, use2, split, join, fsplit, fjoin, feqL, suffices, frame, done}
 use types.Part.{agg, whole, sub, look-in}
 use types.Run.{look, init, forget, stop, hop, fld, from, load, addr, and-then, no-more, assigns, land, returns, enter, alloc1, alloc0, params1, pass1, pass0, free1, free0}
 use sound.WpLaws.{fmOf, WpFn-mono}
 use denote.RattleType.{owns}
-use denote.Laws.{Is, shows}
+use denote.Laws.{Is}
 use denote.Plain.{uint-makes, uint-vals, uint-tells}
 use denote.Builtin.{u8, u64, usize}
 use denote.Ref.{RefT}
 use denote.Slice.{sliceVal, MutSlice, ShrSlice, Room, finally, slice-vals, mut-slice-tells, shr-slice-tells, shr-slice-copy}
 use denote.Signature.{plain}
-use denote.Steps.{peeks, heard, owned, nothing}
+use denote.Steps.{owned, nothing}
 use denote.Struct.Laws as LL
 use denote.Enum.Laws as EL
 use denote.Triple.Entry.{Vals, onEntry}
 use denote.Triple.Statement.{Contract, Triple}
-use denote.Triple.Call.{calls-at}
-use denote.Triple.Clauses.{ensured, lasts}
+use denote.Triple.Clauses.{lasts}
 use denote.Triple.Spec.{Meets, tripleOf}
 use denote.Triple.Table.{entered, cited}
 use denote.Triple.Walked.{says, Stays, gave-slice, stay-none-slice, stay-none, walkOf, Walks, ends-at, walked, goes-gave-slice, goes-none-slice, goes-none, walk-meets}
@@ -48,6 +47,8 @@ use Rattle.entry_table.proofs.Stored as D
 use Rattle.entry_table.proofs.Stored.Laws as D′
 use Rattle.carved_seed.specs.declared.Seeded.{Seeded}
 use Rattle.carved_seed.specs.Promise.{inNumbers, seededFrom, StoresInNumbers}
+use Rattle.carved_seed.proofs.Called.{calls-told, calls-plain}
+use Rattle.carved_seed.proofs.Values.{val, Good, typed}
 use Rattle.carved_seed.proofs.Seeded as R
 use Rattle.carved_seed.proofs.Seeded.Laws as R′
 use Rattle.carved_seed.proofs.seed_from_carved as seed
@@ -65,6 +66,9 @@ use Rattle.carved_seed.proofs.table_seed_entries.Code as code
 
 abbrev stayed : Stays (self.ended .signature .params) (self.ended .kept)
 stayed = (stay-none-slice (0 ∷ []) tt (plain (λ _. u8)) yes, (stay-none-slice (1 ∷ []) tt (plain (λ _. u8)) yes, (gave-slice (2 ∷ []) tt (plain (λ _. u64)), (stay-none (λ _. usize) yes, (stay-none-slice (3 ∷ []) tt (plain (λ _. T.the-row)) yes, tt)))))
+
+abbrev valR : Seeded → Val
+valR = LL.val R.the-type R′.the-laws
 
 abbrev Arg : Type 0
 Arg = RefT (List ℕ) × (RefT (List ℕ) × (RefT (List ℕ) × (ℕ × (RefT (List CarvedMftEntry) × Unit {0}))))
@@ -105,8 +109,8 @@ module _ {M : Type 1} (𝓤 : URA M) (H : Heap 𝓤) (A : Atoms 𝓤) (W : Given
   abbrev to : Seed 𝓤 H A mem run .Ghost
   to = (((κ₀, (κ₁, (κ, (κ₃, tt)))), (q₀, (q₁, (q, (q₃, tt)))), tt, a, at), tt)
 
-  abbrev to-numbers : Stored → Val → Numbers 𝓤 H A mem run .Ghost
-  to-numbers r u = ((tt, tt, tt, (used, (r, tt)), (vint w64 used ∷ [], (u ∷ [], tt))), tt)
+  abbrev to-numbers : Stored → Numbers 𝓤 H A mem run .Ghost
+  to-numbers r = ((tt, tt, tt, (used, (r, tt)), (vint w64 used ∷ [], (val r ∷ [], tt))), tt)
 
   abbrev OwnJ : Fml
   OwnJ = ShrSlice (named 0) κ₀ u8 .own yj (vj ∷ [])
@@ -116,12 +120,6 @@ module _ {M : Type 1} (𝓤 : URA M) (H : Heap 𝓤) (A : Atoms 𝓤) (W : Given
 
   abbrev OwnE : Fml
   OwnE = ShrSlice (named 3) κ₃ T.the-row .own y (w ∷ [])
-
-  abbrev OwnR : Seeded → Val → Fml
-  OwnR r u = R.the-row .own r (u ∷ [])
-
-  abbrev OwnD : Stored → Val → Fml
-  OwnD r u = D.the-row .own r (u ∷ [])
 
   abbrev Owns : Fml
   Owns = owns (ShrSlice (named 0) κ₀ u8 ∷ ShrSlice (named 1) κ₁ u8 ∷ MutSlice (named 2) κ u64 ∷ usize ∷ ShrSlice (named 3) κ₃ T.the-row ∷ []) a at
@@ -136,11 +134,8 @@ module _ {M : Type 1} (𝓤 : URA M) (H : Heap 𝓤) (A : Atoms 𝓤) (W : Given
   abbrev Said : Stored → List ℕ → Type 0
   Said r zs = Stores done-by (x .now) r zs
 
-  typed-r : (r : Seeded) (u : Val) → Is R.the-row r (u ∷ []) → Holds (hasTy R′.mir u) × WT u
-  typed-r r u is = LL.lawful R.the-type R′.the-laws 𝓤 H A W .typed r (u ∷ []) is .0
-
-  typed-d : (r : Stored) (u : Val) → Is D.the-row r (u ∷ []) → Holds (hasTy D′.mir u) × WT u
-  typed-d r u is = EL.lawful D.the-type D′.the-laws 𝓤 H A W tt .typed r (u ∷ []) is .0
+  typed-r : (r : Seeded) → Is R.the-row r (valR r ∷ []) → Holds (hasTy R′.mir (valR r)) × WT (valR r)
+  typed-r r is = LL.lawful R.the-type R′.the-laws 𝓤 H A W .typed r (valR r ∷ []) is .0
 
   -- what is passed is what `seed_from_carved` asks, and copies of the shared slices are kept
   apart : ent 𝓤 (⋆ 𝓤 H A (Tokens ∷ ‵ Owns ∷ [])) (sep 𝓤 (Seed 𝓤 H A mem run .pre to) (sep 𝓤 (sem 𝓤 H A OwnJ) (sep 𝓤 (sem 𝓤 H A OwnM) (sem 𝓤 H A OwnE))))
@@ -154,16 +149,18 @@ module _ {M : Type 1} (𝓤 : URA M) (H : Heap 𝓤) (A : Atoms 𝓤) (W : Given
       -- [what the parameters own; journal; image; entries; the tokens]
       move ! (4 ∷ 0 ∷ []) $ use2 W (raw (Seed 𝓤 H A mem run .pre to)) (qed W (Tokens ∷ ‵ Owns ∷ []) ∵ join ! $ frame ! $ done !) $ frame ! $ frame ! $ frame ! $ done !
 
-  goes-numbers : used < 2 ^ 64 → (r : Stored) (u : Val) → ent 𝓤 (⋆ 𝓤 H A (‵ (OwnD r u) ∷ [])) (Numbers 𝓤 H A mem run .pre (to-numbers r u))
-  goes-numbers used-fits r u = qed W (‵ (OwnD r u) ∷ []) ∵ nothing ! $ move ! (1 ∷ 0 ∷ []) $ fjoin ! $ owned ! usize (Is usize) (uint-makes 𝓤 H A W w64) used _ (refl, used-fits) $ fjoin ! $ nothing ! $ join ! $ frame ! $ done !
+  goes-numbers : used < 2 ^ 64 → (r : Stored) → Good r → ent 𝓤 (⋆ 𝓤 H A (‵ ftrue ∷ [])) (Numbers 𝓤 H A mem run .pre (to-numbers r))
+  goes-numbers used-fits r is =
+      qed W (‵ ftrue ∷ []) ∵ owned ! D.the-row (Is D.the-row) (EL.makes D.the-type D′.the-plain 𝓤 H A) r _ is $ fjoin ! $ owned ! usize (Is usize) (uint-makes 𝓤 H A W w64) used _ (refl, used-fits) $ fjoin ! $ nothing ! $ join ! $ frame ! $ done !
 
-  exits : used < 2 ^ 64 → (r : Seeded) (u : Val) (zs : List ℕ) → length zs ≡ length (x .now) → StoresInNumbers done-by used (x .now) r zs
-      → ent 𝓤 (⋆ 𝓤 H A (Tokens ∷ ‵ (finally u64 (x .name) zs) ∷ ‵ (OwnR r u) ∷ ‵ OwnJ ∷ ‵ OwnM ∷ ‵ OwnE ∷ [])) (Post u)
-  exits used-fits r u zs l e =
-      qed W (Tokens ∷ ‵ (finally u64 (x .name) zs) ∷ ‵ (OwnR r u) ∷ ‵ OwnJ ∷ ‵ OwnM ∷ ‵ OwnE ∷ []) ∵
-      suffices ! _ (ends-at 𝓤 H A self.ended stayed (self.clauses 𝓤 H A mem run) W (((κ₀, (κ₁, (κ, (κ₃, tt)))), (q₀, (q₁, (q, (q₃, tt)))), tt, a, at), tt) u r (tt, (tt, (zs, (tt, (tt, tt))))) (tt, (tt, (l, (tt, (tt, tt)))))) $ says ! e $ frame ! $
-      -- [the last list; the answer; journal; image; entries]
-      nothing ! $ move ! (5 ∷ 0 ∷ []) $ fjoin ! $ owned ! usize (Is usize) (uint-makes 𝓤 H A W w64) used _ (refl, used-fits) $ fjoin ! $ move ! (1 ∷ 0 ∷ []) $ fjoin ! $ move ! (3 ∷ 0 ∷ []) $ fjoin ! $ move ! (2 ∷ 0 ∷ []) $ fjoin ! $ frame ! $ done !
+  exits : used < 2 ^ 64 → (r : Seeded) → Is R.the-row r (valR r ∷ []) → (zs : List ℕ) → length zs ≡ length (x .now) → StoresInNumbers done-by used (x .now) r zs
+      → ent 𝓤 (⋆ 𝓤 H A (Tokens ∷ ‵ (finally u64 (x .name) zs) ∷ ‵ OwnJ ∷ ‵ OwnM ∷ ‵ OwnE ∷ [])) (Post (valR r))
+  exits used-fits r is zs l e =
+      qed W (Tokens ∷ ‵ (finally u64 (x .name) zs) ∷ ‵ OwnJ ∷ ‵ OwnM ∷ ‵ OwnE ∷ []) ∵
+      suffices ! _ (ends-at 𝓤 H A self.ended stayed (self.clauses 𝓤 H A mem run) W (((κ₀, (κ₁, (κ, (κ₃, tt)))), (q₀, (q₁, (q, (q₃, tt)))), tt, a, at), tt) (valR r) r (tt, (tt, (zs, (tt, (tt, tt))))) (tt, (tt, (l, (tt, (tt, tt)))))) $ says ! e $ frame ! $
+      -- [the last list; journal; image; entries]
+      nothing ! $ move ! (4 ∷ 0 ∷ []) $ fjoin ! $ owned ! usize (Is usize) (uint-makes 𝓤 H A W w64) used _ (refl, used-fits) $ fjoin ! $ move ! (1 ∷ 0 ∷ []) $ fjoin ! $ move ! (2 ∷ 0 ∷ []) $ fjoin ! $ move ! (1 ∷ 0 ∷ []) $ fjoin ! $ frame ! $
+      owned ! R.the-row (Is R.the-row) (LL.makes R.the-type R′.the-plain 𝓤 H A) r _ is $ done !
 
   walk : (𝓣 : Tables 𝓤 H) → Triple 𝓤 (𝓣 .C #seed-from-carved) (Seed 𝓤 H A mem run) → Triple 𝓤 (𝓣 .C #in-numbers) (Numbers 𝓤 H A mem run)
       → Room u8 (length (yj .now)) → Room u8 (length (ym .now)) → Room u64 (length (x .now)) → used < 2 ^ 64 → Room T.the-row (length (y .now))
@@ -177,22 +174,16 @@ module _ {M : Type 1} (𝓤 : URA M) (H : Heap 𝓤) (A : Atoms 𝓤) (W : Given
       assigns ! (agg ! (and-then ! (load ! (from ! (stop !)) (look ! 2 refl)) (and-then ! (load ! (from ! (fld ! refl (stop !))) (look-in ! 10 (sub ! 1 refl (whole !)))) (no-more !)))) (from ! (stop !)) (init ! 0 refl (tt, (tt, (record { fits = room .0 }, tt)))) $
       move ! (18 ∷ 19 ∷ []) $ join ! $ use1 W (raw (Seed 𝓤 H A mem run .pre to) ⊛ (‵ OwnJ ⊛ (‵ OwnM ⊛ ‵ OwnE))) apart $ split ! $ move ! (1 ∷ []) $ split ! $ move ! (1 ∷ []) $ split ! $ move ! (3 ∷ 2 ∷ 0 ∷ 1 ∷ []) $
       -- [what `seed_from_carved` asks; journal; image; entries; _8; …; _0; …]
-      calls-at ! (fmOf 𝓤 H (W .laws) 𝓣) (Seed 𝓤 H A mem run) known to (and-then ! (load ! (from ! (stop !)) (look ! 18 refl)) (and-then ! (load ! (from ! (stop !)) (look ! 16 refl)) (and-then ! (load ! (from ! (stop !)) (look ! 4 refl)) (and-then ! (load ! (from ! (stop !)) (look ! 12 refl)) (and-then ! (load ! (from ! (stop !)) (look ! 10 refl)) (no-more !)))))) (λ u.
-      use1 W (later (some (λ (r : Stored). (Tokens ⊛ ‵ (OwnD r u)) ⊛ raw (ensured 𝓤 H A seed.ended (seed.clauses 𝓤 H A mem run) (κ₀, (κ₁, (κ, (κ₃, tt)))) a tt r)))) (id⊢ 𝓤 _) $ await ! tt $ pick ! (λ r.
-      split ! $ move ! (1 ∷ []) $ use1 W (some (λ (ls : Unit {0} × (Unit {0} × (List ℕ × (Unit {0} × (Unit {0} × Unit {0}))))). ‵ (lasts seed.ended (κ₀, (κ₁, (κ, (κ₃, tt)))) a ls) ⊛ raw (fact 𝓤 (Said r (ls .1 .1 .0))))) (id⊢ 𝓤 _) $ pick ! (λ ls.
-      split ! $ move ! (1 ∷ []) $ heard ! (Said r (ls .1 .1 .0)) (λ e. fsplit ! $ drop ! $ fsplit ! $ drop ! $ fsplit ! $ fsplit ! $ move ! (1 ∷ []) $ feqL ! (λ l.
-      -- [the last list; true; the tokens and the answer; journal; image; entries; _8; …]
-      move ! (2 ∷ []) $ split ! $ move ! (1 ∷ []) $ peeks ! D.the-row (Is D.the-row) (shows 𝓤 H A D.the-row) r (u ∷ []) (λ is. land ! (from ! (stop !)) (init ! 11 refl (typed-d r u is)) $
-      use1 W (raw (Numbers 𝓤 H A mem run .pre (to-numbers r u))) (goes-numbers used-fits r u) $
-      -- [what `in_numbers` asks; the tokens; the last list; true; journal; image; entries; _8; …]
-      calls-at ! (fmOf 𝓤 H (W .laws) 𝓣) (Numbers 𝓤 H A mem run) known-numbers (to-numbers r u) (and-then ! (load ! (from ! (stop !)) (look ! 15 refl)) (and-then ! (load ! (from ! (stop !)) (look ! 11 refl)) (no-more !))) (λ u′.
-      use1 W (later (some (λ (r′ : Seeded). (‵ ftrue ⊛ ‵ (OwnR r′ u′)) ⊛ raw (ensured 𝓤 H A numbers.ended (numbers.clauses 𝓤 H A mem run) tt (used, (r, tt)) tt r′)))) (id⊢ 𝓤 _) $ await ! tt $ pick ! (λ r′.
-      split ! $ move ! (1 ∷ []) $ use1 W (some (λ (ls′ : Unit {0} × (Unit {0} × Unit {0})). ‵ (lasts numbers.ended tt (used, (r, tt)) ls′) ⊛ raw (fact 𝓤 (r′ ≡ inNumbers used (outcome r))))) (id⊢ 𝓤 _) $ pick ! (λ ls′.
-      split ! $ move ! (1 ∷ []) $ heard ! (r′ ≡ inNumbers used (outcome r)) (λ e′. drop ! $ split ! $ drop ! $
-      peeks ! R.the-row (Is R.the-row) (shows 𝓤 H A R.the-row) r′ (u′ ∷ []) (λ is′. land ! (from ! (stop !)) (init ! 23 refl (typed-r r′ u′ is′)) $
-      returns ! (look ! 23 refl) $ forget ! 7 refl $ forget ! 9 refl $ forget ! 11 refl $ forget ! 13 refl $ forget ! 15 refl $ forget ! 17 refl $ forget ! 19 refl $ forget ! 21 refl $ forget ! 23 refl $
-      move ! (23 ∷ 24 ∷ []) $ free1 ! $ move ! (21 ∷ 22 ∷ []) $ free1 ! $ move ! (19 ∷ 20 ∷ []) $ free1 ! $ move ! (17 ∷ 18 ∷ []) $ free1 ! $ move ! (15 ∷ 16 ∷ []) $ free1 ! $ move ! (13 ∷ 14 ∷ []) $ free1 ! $ move ! (11 ∷ 12 ∷ []) $ free1 ! $ move ! (9 ∷ 10 ∷ []) $ free1 ! $ move ! (7 ∷ 8 ∷ []) $ free1 ! $ free0 ! $
-      keep ! (1 ∷ 2 ∷ 0 ∷ 4 ∷ 5 ∷ 6 ∷ []) $ by ! (exits used-fits r′ u′ (ls .1 .1 .0) l (record { answer = e′ ∙ ap (inNumbers used) (e .answer); slots-are = e .slots-are }))))))))))))))))))))))
+      calls-told ! (fmOf 𝓤 H (W .laws) 𝓣) (Seed 𝓤 H A mem run) known to D.the-row val (EL.tells D.the-type D′.the-laws) Tokens (lasts seed.ended (κ₀, (κ₁, (κ, (κ₃, tt)))) a) (λ r ws. Said r (ws .1 .1 .0)) (λ u. id⊢ 𝓤 _)
+      (and-then ! (load ! (from ! (stop !)) (look ! 18 refl)) (and-then ! (load ! (from ! (stop !)) (look ! 16 refl)) (and-then ! (load ! (from ! (stop !)) (look ! 4 refl)) (and-then ! (load ! (from ! (stop !)) (look ! 12 refl)) (and-then ! (load ! (from ! (stop !)) (look ! 10 refl)) (no-more !)))))) (λ r ws e is.
+      move ! (1 ∷ []) $ fsplit ! $ drop ! $ fsplit ! $ drop ! $ fsplit ! $ fsplit ! $ move ! (1 ∷ []) $ feqL ! (λ l. move ! (1 ∷ []) $ drop ! $
+      -- [the last list; the tokens; journal; image; entries; _8; …]: the answer lands in _6, and its numbers in _0
+      land ! (from ! (stop !)) (init ! 9 refl (typed 𝓤 H A W r is)) $
+      calls-plain ! (fmOf 𝓤 H (W .laws) 𝓣) (Numbers 𝓤 H A mem run) known-numbers (to-numbers r) R.the-row valR (LL.tells R.the-type R′.the-laws) (lasts numbers.ended tt (used, (r, tt))) (λ s. s ≡ inNumbers used (outcome r)) (goes-numbers used-fits r is) (λ u. id⊢ 𝓤 _)
+      (and-then ! (load ! (from ! (stop !)) (look ! 14 refl)) (and-then ! (load ! (from ! (stop !)) (look ! 10 refl)) (no-more !))) (λ s f is-s. land ! (from ! (stop !)) (init ! 21 refl (typed-r s is-s)) $
+      returns ! (look ! 21 refl) $ forget ! 5 refl $ forget ! 7 refl $ forget ! 9 refl $ forget ! 11 refl $ forget ! 13 refl $ forget ! 15 refl $ forget ! 17 refl $ forget ! 19 refl $ forget ! 21 refl $
+      move ! (21 ∷ 22 ∷ []) $ free1 ! $ move ! (19 ∷ 20 ∷ []) $ free1 ! $ move ! (17 ∷ 18 ∷ []) $ free1 ! $ move ! (15 ∷ 16 ∷ []) $ free1 ! $ move ! (13 ∷ 14 ∷ []) $ free1 ! $ move ! (11 ∷ 12 ∷ []) $ free1 ! $ move ! (9 ∷ 10 ∷ []) $ free1 ! $ move ! (7 ∷ 8 ∷ []) $ free1 ! $ move ! (5 ∷ 6 ∷ []) $ free1 ! $ free0 ! $
+      move ! (1 ∷ []) $ by ! (exits used-fits s is-s (ws .1 .1 .0) l (record { answer = f ∙ ap (inNumbers used) (e .answer); slots-are = e .slots-are }))))))))))))))
 
 module _ {M : Type 1} (𝓤 : URA M) (H : Heap 𝓤) (A : Atoms 𝓤) (W : Given 𝓤 H A) (mem : Memory → SProp 𝓤) (run : Routine → Fun 𝓤) (𝓣 : Tables 𝓤 H)
     (known : Triple 𝓤 (𝓣 .C #seed-from-carved) (Seed 𝓤 H A mem run)) (known-numbers : Triple 𝓤 (𝓣 .C #in-numbers) (Numbers 𝓤 H A mem run)) where
