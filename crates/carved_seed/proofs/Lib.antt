@@ -1,6 +1,10 @@
 pub mod WayLaws
 pub mod EntryLaws
-pub mod TurnLaws
+pub mod NameLaws
+pub mod PairLaws
 pub mod SeedLaws
 pub mod Again
+pub mod Called
+pub mod Values
+pub mod Callees
 pub mod FlatLaws

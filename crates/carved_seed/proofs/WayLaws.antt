@@ -1,141 +1,127 @@
--- Each way out of a turn's functions, by the tests that lead there. Assumes nothing.
+-- Each way out of the functions that test and count, by the tests that lead there. Assumes nothing.
 use Prim.Native.Nat.{ℕ, _+_, _-_, _≤_, _<_}
-use mathlib.Core.Path.{_≡_, refl, ap, sym, _∙_}
-use mathlib.Core.List.{List, [], _∷_}
-use mathlib.Core.Bool.{Bool, true, false, not}
+use mathlib.Core.Path.{_≡_, ap, sym, _∙_}
+use mathlib.Core.List.{[], _∷_}
+use mathlib.Core.Bool.{Bool, true, false, cond}
 use borrow.Author.Tests.{lt-ltb, le-ltb, le-leb, lt-leb, eq-eqb, ne-eqb}
-use lib.Dec.{ltb}
 use Rattle.walk.specs.Outcome.{Outcome, refused, answered}
 use Rattle.walk.specs.Refusals.{badState, nameOutside, tableFull}
-use Rattle.walk.proofs.ChoiceLaws.{cond-cases}
 use Rattle.mft_carver.specs.declared.CarvedMftEntry.{CarvedMftEntry}
-use Rattle.entry_slots.specs.Names.{Lengths, lengths, inside, allInside}
-use Rattle.entry_slots.specs.Slots.{slotsIn, sameKey}
-use Rattle.entry_slots.specs.Table.{Table, table, find, known, Addition, addition}
-use Rattle.additions.specs.Storing.{newKeys, keysOf, namesOf, adding, storing, usedAfter, wordsAfter}
-use Rattle.additions.specs.Carved.{additionOf}
+use Rattle.entry_slots.specs.Names.{Lengths, inside}
+use Rattle.entry_slots.specs.Slots.{sameKey}
+use Rattle.entry_slots.specs.Table.{Table, find, Addition}
 use Rattle.entry_slots.specs.declared.EntryKey.{EntryKey}
-use Rattle.entry_slots.specs.declared.EntryInfo.{EntryInfo}
 use Rattle.entry_slots.specs.declared.NamePlace.{NamePlace}
 use Rattle.entry_slots.specs.declared.slots.Found.{Found}
 use Rattle.entry_slots.specs.declared.slots.Found.the-variants.{At, Nothing}
-use Rattle.additions.proofs.AdditionLaws.{same-addition}
-use Rattle.carved_seed.specs.declared.Seeded.{Seeded}
-use Rattle.carved_seed.specs.declared.turns.Bounds.{Bounds}
-use Rattle.carved_seed.specs.declared.turns.Seeding.{Seeding}
-use Rattle.carved_seed.specs.Turns.{toJudge, toCompare, toAdd, toEnd, nextFrom, firstFrom, compareFrom, judged, compared, afterAdding, inserted, wordsInserted, turned, wordsTurned, inNumbers, seededOutcome}
+use Rattle.entry_slots.proofs.NameLaws.{one-inside}
+use Rattle.additions.specs.Carved.{additionOf}
+use Rattle.carved_seed.specs.declared.room.Pair.{Pair}
+use Rattle.carved_seed.specs.Tests.{stateTested, namesTested}
+use Rattle.carved_seed.specs.Pairs.{pair, firstPair, isKnownAt, nextPair, roomAnswer}
+use Rattle.carved_seed.specs.Promise.{inNumbers}
 
-module _ (count slots used i n : ℕ) {r : Seeding} where
-  pub next-judge : i < count → r ≡ toJudge i n used → r ≡ nextFrom count slots used i n
-  unfolding nextFrom
-  next-judge h e = e ∙ sym (rw (nextFrom, lt-ltb i count h))
+-- an answer in numbers
+module _ (used : ℕ) {o p : Outcome ℕ} where
+  pub numbers : o ≡ p → inNumbers used p ≡ inNumbers used o
+  numbers h = ap (inNumbers used) (sym h)
 
-  pub next-full : count ≤ i → slots - used < n → r ≡ toEnd count used tableFull → r ≡ nextFrom count slots used i n
-  unfolding nextFrom
-  next-full h k e = e ∙ sym (rw (nextFrom, le-ltb i count h, lt-ltb (slots - used) n k))
+-- test 9
+module _ (slots used : ℕ) where
+  pub state-bad : slots < used → refused badState ≡ stateTested slots used
+  unfolding stateTested
+  state-bad h = sym (rw (stateTested, lt-ltb slots used h))
 
-  pub next-add : count ≤ i → n ≤ slots - used → r ≡ toAdd 0 used → r ≡ nextFrom count slots used i n
-  unfolding nextFrom
-  next-add h k e = e ∙ sym (rw (nextFrom, le-ltb i count h, le-ltb (slots - used) n k))
+  pub state-good : used ≤ slots → answered used ≡ stateTested slots used
+  unfolding stateTested
+  state-good h = sym (rw (stateTested, le-ltb slots used h))
 
-module _ (count slots used : ℕ) {r : Seeding} where
-  pub first-bad : slots < used → r ≡ toEnd count used badState → r ≡ firstFrom count slots used
-  unfolding firstFrom
-  first-bad h e = e ∙ sym (rw (firstFrom, lt-ltb slots used h))
+-- test 7 of one addition
+module _ (ls : Lengths) (a : Addition) {o : Outcome ℕ} {n : ℕ} where
+  pub name-handed : o ≡ refused n → refused n ≡ namesTested ls (a ∷ []) o
+  unfolding namesTested
+  name-handed h = sym (ap (namesTested ls (a ∷ [])) h)
 
-  pub first-next : used ≤ slots → r ≡ nextFrom count slots used 0 0 → r ≡ firstFrom count slots used
-  unfolding firstFrom
-  first-next h e = e ∙ sym (rw (firstFrom, le-ltb slots used h))
+  pub name-tested : {p : NamePlace} {y z : Bool} → o ≡ answered n → p ≡ a .info .name → y ≡ inside ls p → y ≡ z
+      → cond z (answered n) (refused nameOutside) ≡ namesTested ls (a ∷ []) o
+  unfolding namesTested
+  name-tested h q x y =
+      sym
+      (ap (namesTested ls (a ∷ [])) h
+      ∙ ap (λ (b : Bool). cond b (answered n) (refused nameOutside)) (one-inside ls (a .info .name) (x ∙ ap (inside ls) q) y))
 
-module _ (count slots used at i n : ℕ) (key : EntryKey) {r : Seeding} where
-  pub compare-on : at < i → r ≡ toCompare at i n used key → r ≡ compareFrom count slots used at i n key
-  unfolding compareFrom
-  compare-on h e = e ∙ sym (rw (compareFrom, lt-ltb at i h))
+-- the first pair
+module _ (slots count : ℕ) {o : Outcome ℕ} {u : ℕ} where
+  pub first-handed : o ≡ refused u → pair count 0 0 ≡ firstPair o slots count
+  unfolding firstPair
+  first-handed h = sym (rw h)
 
-  pub compare-new : i ≤ at → r ≡ nextFrom count slots used (i + 1) (n + 1) → r ≡ compareFrom count slots used at i n key
-  unfolding compareFrom
-  compare-new h e = e ∙ sym (rw (compareFrom, le-ltb at i h))
+  pub first-bad : o ≡ answered u → slots < u → pair count 0 0 ≡ firstPair o slots count
+  unfolding firstPair
+  first-bad h k = sym (rw (h, lt-ltb slots u k))
 
-module _ (b : Bounds) (s : List ℕ) (t : Seeding) (c : CarvedMftEntry) {p : NamePlace} {y : Bool} (e : p ≡ additionOf c .info .name) (x : y ≡ inside (lengths (b .«journal_length») (b .«image_length»)) p) where
-  test : {z : Bool} → y ≡ z → inside (lengths (b .«journal_length») (b .«image_length»)) (additionOf c .info .name) ≡ z
-  test g = ap (inside (lengths (b .«journal_length») (b .«image_length»))) (sym e) ∙ sym x ∙ g
+  pub first-fit : o ≡ answered u → u ≤ slots → count ≤ slots - u → pair count 0 0 ≡ firstPair o slots count
+  unfolding firstPair
+  first-fit h k l = sym (rw (h, le-ltb slots u k, le-leb count (slots - u) l))
 
-  pub judged-outside : {r : Seeding} → y ≡ false → r ≡ toEnd (b .count) (t .used) nameOutside → r ≡ judged b s t c
-  unfolding judged
-  judged-outside g f = f ∙ sym (rw (judged, test g))
+  pub first-count : o ≡ answered u → u ≤ slots → slots - u < count → pair 0 0 0 ≡ firstPair o slots count
+  unfolding firstPair
+  first-count h k l = sym (rw (h, le-ltb slots u k, lt-leb count (slots - u) l))
 
-  pub judged-room : {r : Seeding} → y ≡ true → b .count ≤ slotsIn s - t .used → r ≡ nextFrom (b .count) (slotsIn s) (t .used) (t .i + 1) (t .n) → r ≡ judged b s t c
-  unfolding judged
-  judged-room g h f = f ∙ sym (rw (judged, test g, le-leb (b .count) (slotsIn s - t .used) h))
+-- whether the table has a key, before the first comparison
+module _ (t : Table) (j : ℕ) (k : EntryKey) where
+  pub asked-before : (j ≡ 0 → ⊥) → false ≡ isKnownAt t j k
+  unfolding isKnownAt
+  asked-before h = sym (rw (isKnownAt, ne-eqb j 0 h))
 
-  module _ (g : y ≡ true) (h : slotsIn s - t .used < b .count) {k : EntryKey} {at : Found} (q : k ≡ additionOf c .key) (l : at ≡ find (table s (t .used)) k) where
-    stands : {v : Found} → at ≡ v → find (table s (t .used)) (additionOf c .key) ≡ v
-    stands m = ap (find (table s (t .used))) (sym q) ∙ sym l ∙ m
+  module _ {f : Found} (e : f ≡ find t k) (h : j ≡ 0) where
+    pub asked-known : {m : ℕ} → f ≡ At m → true ≡ isKnownAt t j k
+    unfolding isKnownAt
+    asked-known g = sym (rw (isKnownAt, eq-eqb j 0 h, ← e, g))
 
-    pub judged-known : {m : ℕ} {r : Seeding} → at ≡ At m → r ≡ nextFrom (b .count) (slotsIn s) (t .used) (t .i + 1) (t .n) → r ≡ judged b s t c
-    unfolding judged
-    judged-known m f = f ∙ sym (rw (judged, test g, lt-leb (b .count) (slotsIn s - t .used) h, stands m))
+    pub asked-unknown : f ≡ Nothing → false ≡ isKnownAt t j k
+    unfolding isKnownAt
+    asked-unknown g = sym (rw (isKnownAt, eq-eqb j 0 h, ← e, g))
 
-    pub judged-new : {r : Seeding} → at ≡ Nothing → r ≡ compareFrom (b .count) (slotsIn s) (t .used) 0 (t .i) (t .n) k → r ≡ judged b s t c
-    unfolding judged
-    judged-new m f =
-        f ∙ ap (compareFrom (b .count) (slotsIn s) (t .used) 0 (t .i) (t .n)) q
-        ∙ sym (rw (judged, test g, lt-leb (b .count) (slotsIn s - t .used) h, stands m))
+-- the pair after this one
+module _ (t : Table) (p : Pair) (e d : CarvedMftEntry) {k : EntryKey} {y : Bool} (q : k ≡ additionOf e .key) (x : y ≡ isKnownAt t (p .j) k) where
+  asked : {z : Bool} → y ≡ z → isKnownAt t (p .j) (additionOf e .key) ≡ z
+  asked g = ap (isKnownAt t (p .j)) (sym q) ∙ sym x ∙ g
 
-module _ (b : Bounds) (slots : ℕ) (t : Seeding) (c : CarvedMftEntry) {k : EntryKey} {y : Bool} (q : k ≡ additionOf c .key) (x : y ≡ sameKey k (t .key)) where
-  same : {z : Bool} → y ≡ z → sameKey (additionOf c .key) (t .key) ≡ z
-  same g = ap (λ (j : EntryKey). sameKey j (t .key)) (sym q) ∙ sym x ∙ g
+  pub next-known : y ≡ true → pair (p .i + 1) 0 (p .n) ≡ nextPair t p e d
+  unfolding nextPair
+  next-known g = sym (rw (nextPair, asked g))
 
-  pub compared-same : {r : Seeding} → y ≡ true → r ≡ nextFrom (b .count) slots (t .used) (t .i + 1) (t .n) → r ≡ compared b slots t c
-  unfolding compared
-  compared-same g f = f ∙ sym (rw (compared, same g))
+  pub next-new : y ≡ false → p .i ≤ p .j → pair (p .i + 1) 0 (p .n + 1) ≡ nextPair t p e d
+  unfolding nextPair
+  next-new g h = sym (rw (nextPair, asked g, le-leb (p .i) (p .j) h))
 
-  pub compared-other : {r : Seeding} → y ≡ false → r ≡ compareFrom (b .count) slots (t .used) (t .at + 1) (t .i) (t .n) (t .key) → r ≡ compared b slots t c
-  unfolding compared
-  compared-other g f = f ∙ sym (rw (compared, same g))
+  module _ (g : y ≡ false) (h : p .j < p .i) {l : EntryKey} {z : Bool} (r : l ≡ additionOf d .key) (s : z ≡ sameKey l k) where
+    compared : {b : Bool} → z ≡ b → sameKey (additionOf d .key) (additionOf e .key) ≡ b
+    compared w = ap (λ (m : EntryKey). sameKey m (additionOf e .key)) (sym r) ∙ ap (sameKey l) (sym q) ∙ sym s ∙ w
 
-module _ (b : Bounds) (s : List ℕ) (t : Seeding) (c : CarvedMftEntry) {k : EntryKey} {e : EntryInfo} (q : k ≡ additionOf c .key) (x : e ≡ additionOf c .info) where
-  is : addition k e false ≡ additionOf c
-  is = same-addition q x refl
+    pub next-same : z ≡ true → pair (p .i + 1) 0 (p .n) ≡ nextPair t p e d
+    unfolding nextPair
+    next-same w = sym (rw (nextPair, asked g, lt-leb (p .i) (p .j) h, compared w))
 
-  pub inserts : {r : Seeding} {w : List ℕ} {o p : Outcome ℕ} → o ≡ usedAfter (adding (table s (t .used)) (addition k e false ∷ [])) → w ≡ wordsAfter (adding (table s (t .used)) (addition k e false ∷ [])) s
-      → o ≡ p → r ≡ afterAdding b t p → (r ≡ inserted b s t c) × (w ≡ wordsInserted s t c)
-  unfolding inserted wordsInserted
-  inserts y z g f = (
-    f ∙ ap (afterAdding b t) (sym g ∙ y ∙ ap (λ (a : Addition). usedAfter (adding (table s (t .used)) (a ∷ []))) is),
-    z ∙ ap (λ (a : Addition). wordsAfter (adding (table s (t .used)) (a ∷ [])) s) is,
-  )
+    pub next-other : z ≡ false → pair (p .i) (p .j + 1) (p .n) ≡ nextPair t p e d
+    unfolding nextPair
+    next-other w = sym (rw (nextPair, asked g, lt-leb (p .i) (p .j) h, compared w))
 
-module _ (b : Bounds) (s : List ℕ) (t : Seeding) (c : CarvedMftEntry) {r : Seeding} {w : List ℕ} where
-  pub turns-judge : t .phase ≡ 0 → r ≡ judged b s t c → w ≡ s → (r ≡ turned b s t c) × (w ≡ wordsTurned s t c)
-  unfolding turned wordsTurned
-  turns-judge h e f = (e ∙ sym (rw (turned, eq-eqb _ _ h)), f ∙ sym (rw (wordsTurned, eq-eqb _ _ h)))
+-- what the count answers
+module _ (slots n : ℕ) {o : Outcome ℕ} {u : ℕ} where
+  pub answer-handed : o ≡ refused u → refused u ≡ roomAnswer o slots n
+  unfolding roomAnswer
+  answer-handed h = sym (rw h)
 
-  pub turns-compare : (t .phase ≡ 0 → ⊥) → t .phase ≡ 1 → r ≡ compared b (slotsIn s) t c → w ≡ s → (r ≡ turned b s t c) × (w ≡ wordsTurned s t c)
-  unfolding turned wordsTurned
-  turns-compare g h e f = (e ∙ sym (rw (turned, ne-eqb _ _ g, eq-eqb _ _ h)), f ∙ sym (rw (wordsTurned, ne-eqb _ _ g, eq-eqb _ _ h)))
+  pub answer-bad : o ≡ answered u → slots < u → refused tableFull ≡ roomAnswer o slots n
+  unfolding roomAnswer
+  answer-bad h k = sym (rw (h, lt-ltb slots u k))
 
-  pub turns-insert : (t .phase ≡ 0 → ⊥) → (t .phase ≡ 1 → ⊥) → (r ≡ inserted b s t c) × (w ≡ wordsInserted s t c) → (r ≡ turned b s t c) × (w ≡ wordsTurned s t c)
-  unfolding turned wordsTurned
-  turns-insert g h e = (e .0 ∙ sym (rw (turned, ne-eqb _ _ g, ne-eqb _ _ h)), e .1 ∙ sym (rw (wordsTurned, ne-eqb _ _ g, ne-eqb _ _ h)))
+  pub answer-full : o ≡ answered u → u ≤ slots → slots - u < n → refused tableFull ≡ roomAnswer o slots n
+  unfolding roomAnswer
+  answer-full h k l = sym (rw (h, le-ltb slots u k, lt-ltb (slots - u) n l))
 
-module _ (r : Seeded) where
-  pub outcome-used : r .refusal ≡ 0 → answered (r .used) ≡ seededOutcome r
-  unfolding seededOutcome
-  outcome-used h = sym (rw (seededOutcome, eq-eqb _ _ h))
-
-  pub outcome-refused : (r .refusal ≡ 0 → ⊥) → refused (r .refusal) ≡ seededOutcome r
-  unfolding seededOutcome
-  outcome-refused h = sym (rw (seededOutcome, ne-eqb _ _ h))
-
--- storing in numbers says what storing says: none of its refusals is 0
-module _ (ls : Lengths) (t : Table) (xs : List Addition) (used : ℕ) where
-  abbrev Says : Outcome Table → Type 0
-  Says o = seededOutcome (inNumbers used (usedAfter o)) ≡ usedAfter o
-
-  pub numbers-say : Says (storing ls t xs)
-  unfolding storing adding seededOutcome
-  numbers-say =
-      cond-cases Says (ltb (slotsIn (t .words)) (t .used)) (λ x. refl)
-      (λ x. cond-cases Says (not (allInside ls (namesOf xs))) (λ y. refl)
-      (λ y. cond-cases Says (ltb (slotsIn (t .words)) (t .used + newKeys (known t) (keysOf xs))) (λ z. refl) (λ z. refl)))
+  pub answer-room : o ≡ answered u → u ≤ slots → n ≤ slots - u → answered u ≡ roomAnswer o slots n
+  unfolding roomAnswer
+  answer-room h k l = sym (rw (h, le-ltb slots u k, le-ltb (slots - u) n l))

@@ -2,18 +2,25 @@
 //
 // Every function here is proved. The public calls have no `requires`: any table and any entries get an answer. They answer and
 // write what `entry_table::seed` does on the flat list of the same entries.
-pub mod turns;
+mod carved;
+mod names;
+mod room;
 
 ghost use mathlib.Core.Path.{_≡_};
+ghost use Prim.Native.Nat.{_/_};
+ghost use Rattle.entry_slots.specs.Slots.{stride};
 ghost use Rattle.entry_table.specs.Promise.{outcome};
-ghost use Rattle.carved_seed.specs.Turns.{seededOutcome};
-ghost use Rattle.carved_seed.specs.Promise.{SeedFromCarvedPromise, SeedEntriesPromise};
-use crate::turns::Bounds;
-use crate::turns::begin;
-use crate::turns::finish;
-use crate::turns::turn;
+ghost use Rattle.carved_seed.specs.Tests.{onward, usedIn, stateTested};
+ghost use Rattle.carved_seed.specs.Promise.{inNumbers, SeedFromCarvedPromise, SeedEntriesPromise};
+use crate::carved::info_of;
+use crate::carved::key_of;
+use crate::names::test_names;
+use crate::room::test_room;
+use entry_slots::slots::STRIDE;
 use entry_table::Stored;
+use entry_table::insert_if_absent;
 use mft_carver::CarvedMftEntry;
+use walk::BAD_STATE;
 
 // What seeding answers, in numbers: the used slots, which are those that came in where it is refused, and 0 or the number of the
 // refusal.
@@ -25,7 +32,7 @@ pub struct Seeded {
 
 // Stores carved entries, in turn, each where its key is new.
 // Refused, with nothing written: 9 used is above the slots, 7 a name's place passes the image, also of a known entry, 6 the
-// different new keys are more than the slots that are left.
+// different new keys are more than the slots that are left. Each test takes the answer of those before it and hands a refusal on.
 pub fn seed_from_carved(
     journal: &[u8],
     image: &[u8],
@@ -35,7 +42,23 @@ pub fn seed_from_carved(
 ) -> Stored
     ensures { λ r. ⌜ SeedFromCarvedPromise journal image slots used entries r ⌝ }
 {
-    stored(table_seed_entries(journal, image, slots, used, entries))
+    let mut stored = test_state(slots.len(), used);
+    stored = test_names(stored, journal.len(), image.len(), entries);
+    stored = test_room(stored, slots, entries);
+    let mut i = on(stored, 0, entries.len());
+    while i < entries.len() {
+        let e = entries[i];
+        stored = insert_if_absent(
+            journal,
+            image,
+            slots,
+            used_in(stored),
+            key_of(e),
+            info_of(e),
+        );
+        i += 1;
+    }
+    stored
 }
 
 // The same, answered in numbers.
@@ -49,24 +72,48 @@ pub extern "C" fn table_seed_entries(
 ) -> Seeded
     ensures { λ r. ⌜ SeedEntriesPromise journal image slots used entries r ⌝ }
 {
-    let b = Bounds {
-        count: entries.len(),
-        journal_length: journal.len(),
-        image_length: image.len(),
-    };
-    let mut t = begin(entries.len(), slots.len(), used);
-    while t.at < entries.len() {
-        t = turn(slots, b, t, entries[t.at]);
-    }
-    finish(t)
+    in_numbers(used, seed_from_carved(journal, image, slots, used, entries))
 }
 
-// The numbers as the table's own answer.
-fn stored(s: Seeded) -> Stored
-    ensures { λ r. ⌜ outcome r ≡ seededOutcome s ⌝ }
+// An answer in numbers.
+fn in_numbers(used: usize, stored: Stored) -> Seeded
+    ensures { λ r. ⌜ r ≡ inNumbers used (outcome stored) ⌝ }
 {
-    if s.refusal == 0 {
-        return Stored::Used(s.used);
+    match stored {
+        Stored::Used(n) => Seeded {
+            used: n,
+            refusal: 0,
+        },
+        Stored::Refused(n) => Seeded { used, refusal: n },
     }
-    Stored::Refused(s.refusal)
+}
+
+// Test 9: the used slots, where they are slots.
+fn test_state(slots_length: usize, used: usize) -> Stored
+    ensures { λ r. ⌜ outcome r ≡ stateTested («slots_length» / stride) used ⌝ }
+{
+    if slots_length / STRIDE < used {
+        return Stored::Refused(BAD_STATE);
+    }
+    Stored::Used(used)
+}
+
+// Where a walk over so many entries goes on: at entry i, or past the last one where a test has refused.
+pub(crate) fn on(stored: Stored, i: usize, count: usize) -> usize
+    ensures { λ r. ⌜ r ≡ onward (outcome stored) i count ⌝ }
+{
+    match stored {
+        Stored::Used(_) => i,
+        Stored::Refused(_) => count,
+    }
+}
+
+// The used slots of an answer; 0 where it is a refusal.
+pub(crate) fn used_in(stored: Stored) -> usize
+    ensures { λ r. ⌜ r ≡ usedIn (outcome stored) ⌝ }
+{
+    match stored {
+        Stored::Used(n) => n,
+        Stored::Refused(_) => 0,
+    }
 }

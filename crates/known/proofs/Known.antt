@@ -1,8 +1,8 @@
 -- Every case of the table holds: the checker computes one test over all of them but the deep paths, which have laws, and one law turns it into
--- each. Assumes nothing.
-use Prim.Native.Nat.{ℕ}
+-- each. And the table has the rows of P1 to P10, so many of each. Assumes nothing.
+use Prim.Native.Nat.{ℕ, zero, suc}
 use mathlib.Core.Path.{_≡_, refl, sym, ap, _∙_}
-use mathlib.Core.List.{List, [], _∷_, List·Memᴰ, List·Memᴰ·head, List·Memᴰ·tail, List·Memᴰ·not-nil}
+use mathlib.Core.List.{List, [], _∷_, _++_, map, List·Memᴰ, List·Memᴰ·head, List·Memᴰ·tail, List·Memᴰ·not-nil}
 use mathlib.Core.Bool.{Bool, true, false, true≢false, _&&_}
 use lib.Dec.{eqb}
 use borrow.Author.Tests.{eqb-true}
@@ -27,11 +27,12 @@ use Rattle.mft_carver.specs.Carve.{visit as imageVisit}
 use Rattle.utf16.specs.Utf16.{alone, codePoints}
 use Rattle.utf16.specs.Utf8.{utf8}
 use Rattle.utf16.specs.Text.{decoded}
-use Rattle.known.specs.Case.{Case, same, right}
+use Rattle.known.specs.Case.{Case, same, right, rowsOf}
+use Rattle.path.specs.Sample.{timesA}
 use Rattle.path.proofs.Examples.{loops}
 use Rattle.path.proofs.NestedLaws.{nested-256, nested-257}
 use Rattle.known.specs.Cases.{computedCases, cases}
-use Rattle.known.specs.Paths.{depths}
+use Rattle.known.specs.Paths.{unresolved, names, depths}
 
 same-eq : (xs ys : List ℕ) → same xs ys ≡ true → xs ≡ ys
 same-eq [] [] e = refl
@@ -61,5 +62,24 @@ computed : right computedCases ≡ true
 unfolding le leAt timestampOf referenceOf filenameOf recordOf parsed listed recordWords walk from kindByVersion kindOf visit scanned scan judged visitAs carverVisit carving stepAt steps toCome replaces keep given attributeAt filenameIn attributeVisit hasSignature entryJudged imageVisit alone codePoints utf8 decoded
 computed = refl
 
+-- the names of a deep path, as the laws of such paths have them
+same-names : (n : ℕ) → timesA n ≡ names n
+unfolding timesA names
+same-names zero = refl
+same-names (suc n) = ap (λ (s : List ℕ). 0x5C ∷ 0x61 ∷ s) (same-names n)
+
+deep : All Holds depths
+deep = (
+  nested-256 ∙ ap (λ (s : List ℕ). 0 ∷ 0x2E ∷ s) (same-names 256),
+  (
+    nested-257 ∙ ap (λ (s : List ℕ). 0 ∷ (unresolved ++ (0x35 ∷ 0x3A ∷ 0x35 ∷ 0x29 ∷ s))) (same-names 257),
+    (loops ∙ ap (λ (s : List ℕ). 0 ∷ (unresolved ++ (0x39 ∷ 0x3A ∷ 0x31 ∷ 0x29 ∷ s))) (same-names 257), tt),
+  ),
+)
+
 pub known : (c : Case) → List·Memᴰ c cases → Holds c
-known = member cases (all-append Holds computedCases depths (all-right computedCases computed) (nested-256, (nested-257, (loops, tt))))
+known = member cases (all-append Holds computedCases depths (all-right computedCases computed) deep)
+
+-- the rows of P1 to P10
+pub complete : map (rowsOf cases) (1 ∷ 2 ∷ 3 ∷ 4 ∷ 5 ∷ 6 ∷ 7 ∷ 8 ∷ 9 ∷ 10 ∷ []) ≡ 5 ∷ 3 ∷ 5 ∷ 2 ∷ 4 ∷ 5 ∷ 2 ∷ 4 ∷ 3 ∷ 2 ∷ []
+complete = refl

@@ -3,32 +3,31 @@ use Prim.Native.Nat.{ℕ}
 use mathlib.Core.List.{List, [], _∷_, _++_}
 use lib.ListN.{take}
 use Rattle.walk.specs.Lists.{flatten}
-use Rattle.usn_record.specs.Bytes.{leBytes}
 use Rattle.mft_carver.specs.Settings.{standard}
 use Rattle.mft_carver.specs.Carve.{entriesIn, statsIn, entryWords, statsWords}
-use Rattle.mft_carver.specs.Sample.{header, named, others, last, padded, sample}
 use Rattle.utf16.specs.Text.{decoded}
 use Rattle.known.specs.Case.{Case}
+use Rattle.known.specs.Bytes.{le, entryHeader, named, others, last, padded, entryOf}
 
 -- the counters of image carving: bytes, candidates, carved, rejected
-abbrev pub carveCounts : List ℕ → List ℕ → Case
-carveCounts s known = record { says = statsWords (statsIn standard s); known = known }
+abbrev pub carveCounts : ℕ → List ℕ → List ℕ → Case
+carveCounts of s known = record { of = of; says = statsWords (statsIn standard s); known = known }
 
 -- the words of the entries that are carved
-abbrev pub carvedAs : List ℕ → List ℕ → Case
-carvedAs s known = record { says = flatten entryWords (entriesIn standard s); known = known }
+abbrev pub carvedAs : ℕ → List ℕ → List ℕ → Case
+carvedAs of s known = record { of = of; says = flatten entryWords (entriesIn standard s); known = known }
 
 -- an entry of sequence 3 whose first attribute is said to be at first, and whose bytes from 44 on are these
 abbrev pub firstAt : ℕ → List ℕ → List ℕ
-firstAt first from44 = padded (header 3 first ++ from44)
+firstAt first from44 = padded (entryHeader 3 first ++ from44)
 
 -- P7: a first attribute at 47 is rejected, though an attribute with a name stands there; at 48 it is carved; at 1016 it is rejected, also after a
 -- name at 48
 abbrev pub firstAttributes : List Case
 firstAttributes =
-    carveCounts (firstAt 47 (leBytes 3 42 ++ named 1 ++ last)) (1024 ∷ 1 ∷ 0 ∷ 1 ∷ [])
-    ∷ carveCounts (firstAt 48 (leBytes 4 42 ++ named 1 ++ last)) (1024 ∷ 1 ∷ 1 ∷ 0 ∷ [])
-    ∷ carveCounts (firstAt 1016 (leBytes 4 42 ++ named 1 ++ last)) (1024 ∷ 1 ∷ 0 ∷ 1 ∷ [])
+    carveCounts 7 (firstAt 47 (le 3 42 ++ named 1 ++ last)) (1024 ∷ 1 ∷ 0 ∷ 1 ∷ [])
+    ∷ carveCounts 0 (firstAt 48 (le 4 42 ++ named 1 ++ last)) (1024 ∷ 1 ∷ 1 ∷ 0 ∷ [])
+    ∷ carveCounts 7 (firstAt 1016 (le 4 42 ++ named 1 ++ last)) (1024 ∷ 1 ∷ 0 ∷ 1 ∷ [])
     ∷ []
 
 -- the entry whose name begins at an offset: number 42, sequence 3, six bytes, parent 5:5, a directory in use
@@ -37,28 +36,28 @@ keeps name = 0 ∷ 42 ∷ 3 ∷ name ∷ 6 ∷ 5 ∷ 5 ∷ 1 ∷ 1 ∷ []
 
 -- two names of these namespaces, of which the first begins at 138 and the second at 234
 abbrev pub both : ℕ → ℕ → List ℕ
-both one two = sample (named one ++ named two)
+both one two = entryOf (named one ++ named two)
 
 -- P8: of two names one is kept
 abbrev pub namespaces : List Case
 namespaces =
-    carvedAs (both 2 3) (keeps 234)
-    ∷ carvedAs (both 1 3) (keeps 138)
-    ∷ carvedAs (both 0 2) (keeps 138)
-    ∷ carvedAs (both 0 0) (keeps 234)
+    carvedAs 8 (both 2 3) (keeps 234)
+    ∷ carvedAs 8 (both 1 3) (keeps 138)
+    ∷ carvedAs 8 (both 0 2) (keeps 138)
+    ∷ carvedAs 8 (both 0 0) (keeps 234)
     ∷ []
 
 -- 1023 bytes of an entry, and a name in the 21st attribute
 abbrev pub unseen : List Case
 unseen =
-    carveCounts (take 1023 (sample (named 1))) (1023 ∷ 0 ∷ 0 ∷ 0 ∷ [])
-    ∷ carveCounts (sample (others 19 ++ named 1)) (1024 ∷ 1 ∷ 1 ∷ 0 ∷ [])
-    ∷ carveCounts (sample (others 20 ++ named 1)) (1024 ∷ 1 ∷ 0 ∷ 1 ∷ [])
+    carveCounts 0 (take 1023 (entryOf (named 1))) (1023 ∷ 0 ∷ 0 ∷ 0 ∷ [])
+    ∷ carveCounts 0 (entryOf (others 19 ++ named 1)) (1024 ∷ 1 ∷ 1 ∷ 0 ∷ [])
+    ∷ carveCounts 0 (entryOf (others 20 ++ named 1)) (1024 ∷ 1 ∷ 0 ∷ 1 ∷ [])
     ∷ []
 
 -- P10: a lone surrogate, and a pair
 abbrev pub surrogates : List Case
 surrogates =
-    record { says = decoded (0xD800 ∷ []); known = 0xEF ∷ 0xBF ∷ 0xBD ∷ [] }
-    ∷ record { says = decoded (0xD83D ∷ 0xDE00 ∷ []); known = 0xF0 ∷ 0x9F ∷ 0x98 ∷ 0x80 ∷ [] }
+    record { of = 10; says = decoded (0xD800 ∷ []); known = 0xEF ∷ 0xBF ∷ 0xBD ∷ [] }
+    ∷ record { of = 10; says = decoded (0xD83D ∷ 0xDE00 ∷ []); known = 0xF0 ∷ 0x9F ∷ 0x98 ∷ 0x80 ∷ [] }
     ∷ []

@@ -3,39 +3,37 @@ use Prim.Native.Nat.{ℕ}
 use mathlib.Core.List.{List, [], _∷_}
 use lib.IntN.{ℤ, pos, negsuc}
 use Rattle.walk.specs.Outcome.{outcomeWords}
-use Rattle.walk.specs.Refusals.{badLength, lengthPastSlice}
 use Rattle.usn_record.specs.Layout.{Layout, v2, v3}
 use Rattle.usn_record.specs.Fields.{timestampOf}
-use Rattle.usn_record.specs.Sample.{recordE}
 use Rattle.usn_record.specs.Record.{parsed, recordWords, listed}
 use Rattle.known.specs.Case.{Case}
-use Rattle.known.specs.Bytes.{sliceOf}
+use Rattle.known.specs.Bytes.{sliceOf, recordE}
 
 -- a FILETIME gives these seconds and nanoseconds
-abbrev pub time : ℤ → ℕ → ℕ → Case
-time filetime seconds nanoseconds =
-    record { says = timestampOf filetime .seconds ∷ timestampOf filetime .nanoseconds ∷ []; known = seconds ∷ nanoseconds ∷ [] }
+abbrev pub time : ℕ → ℤ → ℕ → ℕ → Case
+time of filetime seconds nanoseconds =
+    record { of = of; says = timestampOf filetime .seconds ∷ timestampOf filetime .nanoseconds ∷ []; known = seconds ∷ nanoseconds ∷ [] }
 
--- P2
+-- P2, and a time before 1601
 abbrev pub times : List Case
 times =
-    time (pos 116444735999999999) 0 0
-    ∷ time (pos 116444736000000000) 0 0
-    ∷ time (pos 9223372036854775807) 910692730085 477580700
-    ∷ time (negsuc 0) 0 0
+    time 2 (pos 116444735999999999) 0 0
+    ∷ time 2 (pos 116444736000000000) 0 0
+    ∷ time 2 (pos 9223372036854775807) 910692730085 477580700
+    ∷ time 0 (negsuc 0) 0 0
     ∷ []
 
 -- a slice of n bytes with this length field is answered so: a refusal's number, or 0 where it is accepted
 abbrev pub slice : Layout → ℕ → ℕ → ℕ → Case
-slice l n length answer = record { says = outcomeWords (λ r. []) (parsed l (sliceOf n length)); known = answer ∷ [] }
+slice l n length answer = record { of = 3; says = outcomeWords (λ r. []) (parsed l (sliceOf n length)); known = answer ∷ [] }
 
 -- P3
 abbrev pub slices : List Case
 slices =
-    slice v2 60 59 badLength
+    slice v2 60 59 3
     ∷ slice v2 60 60 0
-    ∷ slice v2 60 65536 lengthPastSlice
-    ∷ slice v2 60 65537 badLength
+    ∷ slice v2 60 65536 4
+    ∷ slice v2 60 65537 3
     ∷ slice v3 76 65536 0
     ∷ []
 
@@ -45,6 +43,6 @@ wordsE = 0 ∷ 42 ∷ 3 ∷ 5 ∷ 5 ∷ 4096 ∷ 946684800 ∷ 0 ∷ 0x100 ∷ 0
 
 abbrev pub fieldsE : List Case
 fieldsE =
-    record { says = outcomeWords recordWords (parsed v2 recordE); known = wordsE }
-    ∷ record { says = outcomeWords recordWords (listed recordE 0); known = wordsE }
+    record { of = 0; says = outcomeWords recordWords (parsed v2 recordE); known = wordsE }
+    ∷ record { of = 0; says = outcomeWords recordWords (listed recordE 0); known = wordsE }
     ∷ []

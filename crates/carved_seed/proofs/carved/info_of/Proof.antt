@@ -1,7 +1,7 @@
 -- Field by field.
 use borrow.Author.Needs.{needs}
-use Rattle.carved_seed.proofs.turns.info_of.Statement.{statement}
-use Rattle.carved_seed.proofs.turns.info_of.Tie as tie
+use Rattle.carved_seed.proofs.carved.info_of.Statement.{statement}
+use Rattle.carved_seed.proofs.carved.info_of.Tie as tie
 
 cast-t2 : tie.Need-cast-t2
 cast-t2 c = search needs
