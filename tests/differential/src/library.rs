@@ -92,7 +92,7 @@ pub const DOMAIN: usize = 1_073_741_824;
 /// The longest stream that a window reads.
 pub const STREAM_DOMAIN: u64 = 1_099_511_627_776;
 
-// The numbers of the scope's "Answers that refuse"; 0 is no refusal.
+// The numbers of the scope's refusals; 0 is no refusal.
 pub const ACCEPTED: u32 = 0;
 pub const ABOVE_DOMAIN: u32 = 1;
 pub const TOO_SHORT: u32 = 2;

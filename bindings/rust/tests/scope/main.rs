@@ -1,4 +1,4 @@
-//! The wrapper held to the scope, the buyer's description of what to build: its known cases P1 to P10, its record E, and what its
+//! The wrapper held to the scope, docs/SCOPE.md at the repository's root: its known cases P1 to P10, its record E, and what its
 //! sentences say of each call, as far as that shows from outside. Every expected value is written down from that document.
 
 mod carving;
