@@ -1,5 +1,5 @@
 -- The names of a way, from its last slot on: their text, the bytes of it, and the most that these can be. Assumes nothing.
-use Prim.Native.Nat.{ℕ, _+_, _-_, _≤_, _<_}
+use Prim.Native.Nat.{ℕ, zero, suc, _+_, _-_, _*_, _/_, _≤_, _<_}
 use mathlib.Core.Path.{_≡_, refl, ap, sym, _∙_}
 use mathlib.Core.List.{List, [], _∷_, _++_}
 use mathlib.Core.Bool.{Bool, true, false}
@@ -8,14 +8,18 @@ use borrow.Author.Tests.{le-leb, lt-leb, leb-true, leb-false, eqb-true, eqb-fals
 use lib.ListN.{length, length-append, getD}
 use lib.Dec.{leb, eqb}
 use Rattle.utf16.proofs.TextLaws.{name-most}
+use Rattle.walk.specs.Refusals.{domain}
+use Rattle.entry_slots.specs.Names.{lengthsOf, inside}
 use Rattle.entry_slots.specs.Slots.{nameAt}
 use Rattle.entry_slots.specs.declared.NamePlace.{NamePlace}
 use Rattle.chain.specs.Chain.{Chain}
-use Rattle.chain.specs.Way.{placesOf}
-use Rattle.chain.proofs.WayLaws.{places-less, places-none}
+use Rattle.chain.specs.Way.{placesOf, stepBound, namesBound, chainBy}
+use Rattle.chain.specs.declared.way.Climbed.{Climbed}
+use Rattle.chain.proofs.WayLaws.{places-less, places-none, bound-short}
 use Rattle.path_text.specs.Text.{endText, placeText, stepText, namesText, pathText}
-use Rattle.path_text.proofs.NameLaws.{Sources, step-long, journal-text, image-text}
-use Rattle.path.specs.Ways.{stepBound, namesBound, pathBound, entryText}
+use Rattle.path_text.proofs.NameLaws.{Sources, step-long, journal-text, image-text, inside-short}
+use Rattle.path.specs.Ways.{entryText}
+use Rattle.path.specs.Promise.{WayAsks}
 
 -- whether a number of bytes has room
 pub fits-so : (whole room : ℕ) → whole ≤ room → true ≡ leb whole room
@@ -37,10 +41,6 @@ module _ (words way : List ℕ) (n : ℕ) (some : 0 < n) where
   abbrev last : NamePlace
   last = nameAt words (getD way (n - 1) 0)
 
-  pub bound-less : namesBound (placesOf words way n) ≡ stepBound last + namesBound (placesOf words way (n - 1))
-  unfolding namesBound
-  bound-less = ap namesBound (places-less words way n some)
-
   module _ (journal image : List ℕ) where
     pub text-less : namesText journal image (placesOf words way n) ≡ stepText journal image last ++ namesText journal image (placesOf words way (n - 1))
     text-less = ap (namesText journal image) (places-less words way n some)
@@ -50,10 +50,6 @@ module _ (words way : List ℕ) (n : ℕ) (some : 0 < n) where
         omega (arith, ap length text-less, length-append (stepText journal image last) (namesText journal image (placesOf words way (n - 1))), step-long journal image last)
 
 -- no name is left
-pub bound-none : (words way : List ℕ) {n : ℕ} → n ≡ 0 → namesBound (placesOf words way n) ≡ 0
-unfolding namesBound
-bound-none words way e = rw (e, places-none words way)
-
 pub text-none : (words way journal image : List ℕ) {n : ℕ} → n ≡ 0 → namesText journal image (placesOf words way n) ≡ []
 text-none words way journal image e = rw (e, places-none words way)
 
@@ -75,17 +71,28 @@ module _ (journal image : List ℕ) where
 
   -- three bytes for each unit are enough
   module _ (w : Sources journal image) where
-    pub step-enough : (p : NamePlace) → length (stepText journal image p) ≤ stepBound p
-    step-enough p = go (eqb (p .source) 0) refl
+    step-three : (p : NamePlace) → length (stepText journal image p) ≤ 1 + 3 * (p .length / 2)
+    step-three p = go (eqb (p .source) 0) refl
       where
-        go : (b : Bool) → eqb (p .source) 0 ≡ b → length (stepText journal image p) ≤ stepBound p
+        go : (b : Bool) → eqb (p .source) 0 ≡ b → length (stepText journal image p) ≤ 1 + 3 * (p .length / 2)
         go true s = omega (arith, step-long journal image p, ap length (journal-text journal image p (eqb-true (p .source) 0 s)), name-most journal (w .journalBytes) (p .offset) (p .length))
         go false s = omega (arith, step-long journal image p, ap length (image-text journal image p (eqb-false (p .source) 0 s)), name-most image (w .imageBytes) (p .offset) (p .length))
 
-    names-enough : (ps : List NamePlace) → length (namesText journal image ps) ≤ namesBound ps
-    unfolding namesBound
-    names-enough [] = omega arith
-    names-enough (p ∷ ps) = omega (arith, length-append (stepText journal image p) (namesText journal image ps), step-enough p, names-enough ps)
+    pub step-enough : (p : NamePlace) → inside (lengthsOf journal image) p ≡ true → length (stepText journal image p) ≤ stepBound p
+    step-enough p h =
+        let short = inside-short journal image p h (w .journalLong) (w .imageLong) in
+        omega (arith, step-three p, bound-short p (omega (arith, short)))
 
-    pub path-enough : (c : Chain) → length (pathText journal image c) ≤ pathBound c
-    path-enough c = omega (arith, path-long c, names-enough (c .places))
+    -- and the bound of a way whose names are inside is enough for its path
+    names-enough : (words way : List ℕ) (n : ℕ) → ((i : ℕ) → i < n → inside (lengthsOf journal image) (nameAt words (getD way i 0)) ≡ true)
+        → length (namesText journal image (placesOf words way n)) ≤ namesBound (placesOf words way n)
+    unfolding placesOf namesBound
+    names-enough words way zero h = omega arith
+    names-enough words way (suc n) h =
+        let p : NamePlace = nameAt words (getD way n 0) in
+        omega
+        (arith, length-append (stepText journal image p) (namesText journal image (placesOf words way n)), step-enough p (h n (omega arith)), names-enough words way n (λ i g. h i (omega arith)))
+
+    pub path-enough : (words way : List ℕ) (up : Climbed) → WayAsks journal image words way up
+        → length (pathText journal image (chainBy words way up)) ≤ length (endText (up .end)) + up .bound
+    path-enough words way up asks = omega (arith, path-long (chainBy words way up), names-enough words way (up .names) (asks .insides), asks .bounds)

@@ -17,6 +17,7 @@ use Rattle.entry_slots.specs.Slots.{stride}
 use Rattle.entry_slots.specs.Table.{Table}
 use Rattle.entry_slots.specs.declared.EntryKey.{EntryKey}
 use Rattle.chain.specs.declared.ResolvedPath.{ResolvedPath}
+use Rattle.chain.specs.declared.way.Climbed.{Climbed}
 use Rattle.chain.specs.Chain.{Chain, chain, chainOf, resolved}
 use Rattle.chain.specs.Settings.{depth}
 use Rattle.chain.specs.Tracing.{tracing, listed, chainAfter}
@@ -55,8 +56,8 @@ module _ (journal image : List ℕ) (t : Table) (k : EntryKey) (x l : List ℕ) 
     pub path-fits : t .used * stride ≤ length (t .words)
     path-fits = omega (arith, traced .fits)
 
-    pub path-asks : {way way′ : List ℕ} {p : ResolvedPath} → Climbs t (chainOf t depth k) way 0 p way′ → WayAsks journal image (t .words) way′ (p .names)
-    path-asks w = climbed-asks journal image t (chainOf t depth k) _ w path-fits (traced .places) (traced .journal) (traced .image)
+    pub path-asks : {way′ : List ℕ} {up : Climbed} → Climbs t k up way′ → WayAsks journal image (t .words) way′ up
+    path-asks w = climbed-asks journal image t k w path-fits (traced .places) (traced .journal) (traced .image)
 
   module _ (is : trail ≡ answered (chainOf t depth k)) {c : Chain} (same : c ≡ chainOf t depth k) {r : Behind} {o : List ℕ}
       (told : Behinds (pathText journal image c) l 0 r o) where

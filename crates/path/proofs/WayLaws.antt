@@ -14,22 +14,23 @@ use Rattle.utf16.proofs.PutLaws.{Put}
 use Rattle.entry_slots.specs.Names.{lengthsOf, allInside}
 use Rattle.entry_slots.specs.Slots.{stride, nameAt, namesIn}
 use Rattle.entry_slots.specs.Table.{Table}
+use Rattle.entry_slots.specs.declared.EntryKey.{EntryKey}
 use Rattle.entry_slots.proofs.NameLaws.{all-inside-at}
-use Rattle.chain.specs.Chain.{Chain}
 use Rattle.chain.specs.Promise.{Climbs}
-use Rattle.chain.specs.declared.ResolvedPath.{ResolvedPath}
-use Rattle.chain.proofs.WayLaws.{climbed-below, climbed-slots}
+use Rattle.chain.specs.declared.way.Climbed.{Climbed}
+use Rattle.chain.proofs.WayLaws.{climbed-slots}
 use Rattle.path.specs.Promise.{WayAsks, Behinds}
 use Rattle.path.specs.declared.ways.Behind.the-variants.{To, Full}
 
 -- the names of a way up a table whose names are inside
-pub climbed-asks : (journal image : List ℕ) (t : Table) (c : Chain) (way : List ℕ) {r : ResolvedPath} {way′ : List ℕ} → Climbs t c way 0 r way′
+pub climbed-asks : (journal image : List ℕ) (t : Table) (k : EntryKey) {r : Climbed} {way′ : List ℕ} → Climbs t k r way′
     → t .used * stride ≤ length (t .words) → allInside (lengthsOf journal image) (namesIn (t .words) (t .used)) ≡ true → length journal ≤ domain → length image ≤ domain
-    → WayAsks journal image (t .words) way′ (r .names)
-climbed-asks journal image t c way g fits names hj hm =
+    → WayAsks journal image (t .words) way′ r
+climbed-asks journal image t k g fits names hj hm =
     record {
-      slots = climbed-slots t c way g fits;
-      insides = λ i h. all-inside-at (lengthsOf journal image) (nameAt (t .words)) 0 (t .used) _ names (omega arith) (omega (arith, climbed-below t c way g .each i h));
+      slots = climbed-slots t k g fits;
+      insides = λ i h. all-inside-at (lengthsOf journal image) (nameAt (t .words)) 0 (t .used) _ names (omega arith) (omega (arith, g .below .each i h));
+      bounds = g .bounds;
       near-journal = hj;
       near-image = hm;
     }

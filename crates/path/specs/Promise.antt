@@ -18,8 +18,8 @@ use Rattle.entry_slots.specs.declared.NamePlace.{NamePlace}
 use Rattle.chain.specs.Chain.{Chain}
 use Rattle.chain.specs.Settings.{depth}
 use Rattle.chain.specs.Tracing.{chainAfter}
-use Rattle.chain.specs.Way.{Slots, chainBy}
-use Rattle.chain.specs.declared.ResolvedPath.{ResolvedPath}
+use Rattle.chain.specs.Way.{Slots, placesOf, namesBound, chainBy}
+use Rattle.chain.specs.declared.way.Climbed.{Climbed}
 use Rattle.path_text.specs.Text.{pathText}
 use Rattle.path.specs.Telling.{telling, told, outcome}
 use Rattle.path.specs.Ways.{entryText, passes}
@@ -41,10 +41,11 @@ abbrev pub PathPromise : Lent → Lent → Lent → ℕ → EntryKey → Lent �
 PathPromise journal image slots used key list text r =
     Paths (before journal) (before image) (table (before slots) used) key (before list) (before text) r (after list) (after text)
 
--- what is known before the names of a way are told: its slots are slots of these words, and their names are inside
-pub record WayAsks (journal image words way : List ℕ) (n : ℕ) : Type 0 where
-  pub slots : Slots words way n
-  pub insides : (i : ℕ) → i < n → inside (lengthsOf journal image) (nameAt words (getD way i 0)) ≡ true
+-- what is known before the names of a way are told: its slots are slots of these words, their names are inside, and its bound is theirs
+pub record WayAsks (journal image words way : List ℕ) (up : Climbed) : Type 0 where
+  pub slots : Slots words way (up .names)
+  pub insides : (i : ℕ) → i < up .names → inside (lengthsOf journal image) (nameAt words (getD way i 0)) ≡ true
+  pub bounds : up .bound ≡ namesBound (placesOf words way (up .names))
   pub near-journal : length journal ≤ domain
   pub near-image : length image ≤ domain
 
@@ -53,9 +54,9 @@ pub record Behinds (more text : List ℕ) (at : ℕ) (r : Behind) (text′ : Lis
   pub answer : r ≡ cond (passes text at more) Full (To (at + length more))
   pub written : text′ ≡ cond (passes text at more) text (sets text at more)
 
-module _ (journal image slots way : Lent) (path : ResolvedPath) where
+module _ (journal image slots way : Lent) (up : Climbed) where
   abbrev pub chainTold : Chain
-  chainTold = chainBy (before slots) (before way) path
+  chainTold = chainBy (before slots) (before way) up
 
   -- the path of a way, at the front of a text
   abbrev pub FrontPromise : Lent → Behind → Type 0

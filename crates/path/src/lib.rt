@@ -12,9 +12,10 @@ use crate::ways::Behind;
 use crate::ways::put_path;
 use chain::ResolvedPath;
 use chain::tracing::refusal;
-use chain::way::LEVELS;
+use chain::way::WAY_WORDS;
 use chain::way::climb;
 use chain::way::list_places;
+use chain::way::resolved;
 use entry_slots::EntryKey;
 use walk::TEXT_FULL;
 
@@ -42,12 +43,13 @@ pub fn path(
     if n != 0 {
         return PathAnswer::Refused(n);
     }
-    let mut way: [usize; LEVELS] = [0; LEVELS];
+    let mut way: [usize; WAY_WORDS] = [0; WAY_WORDS];
     let none = &slots[..0];
-    let path = climb(slots, used, none, none, key, LEVELS, &mut way, 0);
-    match put_path(journal, image, slots, &way, path, text) {
+    let up = climb(slots, used, none, none, key, &mut way);
+    match put_path(journal, image, slots, &way, up, text) {
         Behind::To(n) => {
-            list_places(slots, &way, path.names, list);
+            list_places(slots, &way, up.names, list);
+            let path = resolved(up);
             PathAnswer::Path { path, text: n }
         }
         Behind::Full => PathAnswer::Refused(TEXT_FULL),

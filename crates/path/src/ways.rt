@@ -9,11 +9,12 @@ ghost use lib.ListN.{length};
 ghost use lib.Seq.{sets};
 ghost use lib.Dec.{leb};
 ghost use Rattle.entry_slots.specs.Names.{lengthsOf, inside};
-ghost use Rattle.chain.specs.Way.{Slots, chainBy};
-ghost use Rattle.path_text.specs.Text.{pathText};
-ghost use Rattle.path.specs.Ways.{pathBound, entryText};
+ghost use Rattle.chain.specs.Way.{chainBy};
+ghost use Rattle.path_text.specs.Text.{endText, pathText};
+ghost use Rattle.path.specs.Ways.{entryText};
 ghost use Rattle.path.specs.Promise.{WayAsks, FrontPromise, BehindPromise};
-use chain::ResolvedPath;
+use chain::way::Climbed;
+use chain::way::step_bound;
 use entry_slots::NamePlace;
 use entry_slots::slots::info_at;
 use path_text::text::end_length;
@@ -27,32 +28,15 @@ pub enum Behind {
     Full,
 }
 
-// Whether the most bytes that a path can take, three for each unit of its names, are no more than the room.
-fn surely_fits(slots: &[u64], way: &[usize], path: ResolvedPath, room: usize) -> bool
-    requires { ⌜ Slots (now slots) (now way) (path .names) ⌝ }
-    ensures { λ r. ⌜ r ≡ leb (pathBound (chainBy (now (slots .entry)) (now (way .entry)) path)) room ⌝ }
+// Whether the most bytes that a path can take, its end's and three for each unit of its names, are no more than the room.
+fn surely_fits(up: Climbed, room: usize) -> bool
+    ensures { λ r. ⌜ r ≡ leb (length (endText (up .end)) + up .bound) room ⌝ }
 {
-    let end = path.end;
-    let ending = end_length(end);
-    if room < ending {
+    if room < up.bound {
         return false;
     }
-    let mut spare = room - ending;
-    let mut left = path.names;
-    while 0 < left {
-        left -= 1;
-        let info = info_at(slots, way[left]);
-        let name = info.name;
-        let units = name.length / 2;
-        if spare == 0 {
-            return false;
-        }
-        if (((spare - 1) / 3) as u64) < units {
-            return false;
-        }
-        spare -= 1 + 3 * (units as usize);
-    }
-    true
+    let end = up.end;
+    end_length(end) <= room - up.bound
 }
 
 // Whether the bytes of a path are no more than the room. Counting stops as soon as they are not: each unit of a name takes a byte at
@@ -62,19 +46,19 @@ fn bytes_fit(
     image: &[u8],
     slots: &[u64],
     way: &[usize],
-    path: ResolvedPath,
+    up: Climbed,
     room: usize,
 ) -> bool
-    requires { ⌜ WayAsks (now journal) (now image) (now slots) (now way) (path .names) ⌝ }
-    ensures { λ r. ⌜ r ≡ leb (length (pathText (now (journal .entry)) (now (image .entry)) (chainBy (now (slots .entry)) (now (way .entry)) path))) room ⌝ }
+    requires { ⌜ WayAsks (now journal) (now image) (now slots) (now way) up ⌝ }
+    ensures { λ r. ⌜ r ≡ leb (length (pathText (now (journal .entry)) (now (image .entry)) (chainBy (now (slots .entry)) (now (way .entry)) up))) room ⌝ }
 {
-    let end = path.end;
+    let end = up.end;
     let ending = end_length(end);
     if room < ending {
         return false;
     }
     let mut spare = room - ending;
-    let mut left = path.names;
+    let mut left = up.names;
     while 0 < left {
         left -= 1;
         let info = info_at(slots, way[left]);
@@ -97,16 +81,16 @@ fn path_fits(
     image: &[u8],
     slots: &[u64],
     way: &[usize],
-    path: ResolvedPath,
+    up: Climbed,
     room: usize,
 ) -> bool
-    requires { ⌜ WayAsks (now journal) (now image) (now slots) (now way) (path .names) ⌝ }
-    ensures { λ r. ⌜ r ≡ leb (length (pathText (now (journal .entry)) (now (image .entry)) (chainBy (now (slots .entry)) (now (way .entry)) path))) room ⌝ }
+    requires { ⌜ WayAsks (now journal) (now image) (now slots) (now way) up ⌝ }
+    ensures { λ r. ⌜ r ≡ leb (length (pathText (now (journal .entry)) (now (image .entry)) (chainBy (now (slots .entry)) (now (way .entry)) up))) room ⌝ }
 {
-    if surely_fits(slots, way, path, room) {
+    if surely_fits(up, room) {
         return true;
     }
-    bytes_fit(journal, image, slots, way, path, room)
+    bytes_fit(journal, image, slots, way, up, room)
 }
 
 // Whether the path of an entry, by its parent's and its own name, has room.
@@ -115,29 +99,28 @@ fn entry_fits(
     image: &[u8],
     slots: &[u64],
     way: &[usize],
-    path: ResolvedPath,
+    up: Climbed,
     name: NamePlace,
     room: usize,
 ) -> bool
-    requires { ⌜ WayAsks (now journal) (now image) (now slots) (now way) (path .names) ⌝ }
+    requires { ⌜ WayAsks (now journal) (now image) (now slots) (now way) up ⌝ }
     requires { ⌜ inside (lengthsOf (now journal) (now image)) name ≡ true ⌝ }
-    ensures { λ r. ⌜ r ≡ leb (length (entryText (now (journal .entry)) (now (image .entry)) (chainBy (now (slots .entry)) (now (way .entry)) path) name)) room ⌝ }
+    ensures { λ r. ⌜ r ≡ leb (length (entryText (now (journal .entry)) (now (image .entry)) (chainBy (now (slots .entry)) (now (way .entry)) up) name)) room ⌝ }
 {
-    let units = name.length as usize / 2;
-    let most = 1 + 3 * units;
+    let most = step_bound(name);
     if most <= room {
-        if surely_fits(slots, way, path, room - most) {
+        if surely_fits(up, room - most) {
             return true;
         }
     }
-    if room <= units {
+    if (room as u64) <= name.length / 2 {
         return false;
     }
     let own = 1 + place_length(journal, image, name);
     if room < own {
         return false;
     }
-    bytes_fit(journal, image, slots, way, path, room - own)
+    bytes_fit(journal, image, slots, way, up, room - own)
 }
 
 // A path behind the first bytes of a text: its end, and then a backslash and a name for each slot of the way, from the top down.
@@ -146,18 +129,18 @@ fn put_way(
     image: &[u8],
     slots: &[u64],
     way: &[usize],
-    path: ResolvedPath,
+    up: Climbed,
     text: &mut [u8],
     at: usize,
 ) -> usize
-    requires { ⌜ WayAsks (now journal) (now image) (now slots) (now way) (path .names) ⌝ }
-    requires { ⌜ at + length (pathText (now journal) (now image) (chainBy (now slots) (now way) path)) ≤ length (now text) ⌝ }
-    ensures { λ r. ⌜ r ≡ at + length (pathText (now (journal .entry)) (now (image .entry)) (chainBy (now (slots .entry)) (now (way .entry)) path)) ⌝ }
-    ensures { λ _. ⌜ now (text .exit) ≡ sets (now (text .entry)) at (pathText (now (journal .entry)) (now (image .entry)) (chainBy (now (slots .entry)) (now (way .entry)) path)) ⌝ }
+    requires { ⌜ WayAsks (now journal) (now image) (now slots) (now way) up ⌝ }
+    requires { ⌜ at + length (pathText (now journal) (now image) (chainBy (now slots) (now way) up)) ≤ length (now text) ⌝ }
+    ensures { λ r. ⌜ r ≡ at + length (pathText (now (journal .entry)) (now (image .entry)) (chainBy (now (slots .entry)) (now (way .entry)) up)) ⌝ }
+    ensures { λ _. ⌜ now (text .exit) ≡ sets (now (text .entry)) at (pathText (now (journal .entry)) (now (image .entry)) (chainBy (now (slots .entry)) (now (way .entry)) up)) ⌝ }
 {
-    let end = path.end;
+    let end = up.end;
     let mut to = put_end(text, at, end);
-    let mut left = path.names;
+    let mut left = up.names;
     while 0 < left {
         left -= 1;
         let info = info_at(slots, way[left]);
@@ -172,16 +155,16 @@ pub(crate) fn put_path(
     image: &[u8],
     slots: &[u64],
     way: &[usize],
-    path: ResolvedPath,
+    up: Climbed,
     text: &mut [u8],
 ) -> Behind
-    requires { ⌜ WayAsks (now journal) (now image) (now slots) (now way) (path .names) ⌝ }
-    ensures { λ r. ⌜ FrontPromise journal image slots way path text r ⌝ }
+    requires { ⌜ WayAsks (now journal) (now image) (now slots) (now way) up ⌝ }
+    ensures { λ r. ⌜ FrontPromise journal image slots way up text r ⌝ }
 {
-    if !path_fits(journal, image, slots, way, path, text.len()) {
+    if !path_fits(journal, image, slots, way, up, text.len()) {
         return Behind::Full;
     }
-    Behind::To(put_way(journal, image, slots, way, path, text, 0))
+    Behind::To(put_way(journal, image, slots, way, up, text, 0))
 }
 
 // The path of an entry, by its parent's and its own name, behind the first bytes of a text, where there is room for it. Otherwise
@@ -191,18 +174,18 @@ pub fn put_behind(
     image: &[u8],
     slots: &[u64],
     way: &[usize],
-    path: ResolvedPath,
+    up: Climbed,
     name: NamePlace,
     text: &mut [u8],
     at: usize,
 ) -> Behind
-    requires { ⌜ WayAsks (now journal) (now image) (now slots) (now way) (path .names) ⌝ }
+    requires { ⌜ WayAsks (now journal) (now image) (now slots) (now way) up ⌝ }
     requires { ⌜ (inside (lengthsOf (now journal) (now image)) name ≡ true) × (at ≤ length (now text)) ⌝ }
-    ensures { λ r. ⌜ BehindPromise journal image slots way path name text at r ⌝ }
+    ensures { λ r. ⌜ BehindPromise journal image slots way up name text at r ⌝ }
 {
-    if !entry_fits(journal, image, slots, way, path, name, text.len() - at) {
+    if !entry_fits(journal, image, slots, way, up, name, text.len() - at) {
         return Behind::Full;
     }
-    let above = put_way(journal, image, slots, way, path, text, at);
+    let above = put_way(journal, image, slots, way, up, text, at);
     Behind::To(put_step(journal, image, name, text, above))
 }

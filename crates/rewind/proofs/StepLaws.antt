@@ -17,7 +17,7 @@ use Rattle.entry_slots.specs.Table.{Table, table, Addition}
 use Rattle.additions.specs.Storing.{adding, usedAfter, wordsAfter}
 use Rattle.additions.proofs.OneLaws.{Added, adding-added, added-fits, added-none, added-table}
 use Rattle.entry_slots.proofs.IndexLaws.{none-indexed}
-use Rattle.chain.specs.Settings.{depth}
+use Rattle.chain.specs.Settings.{depth, levels}
 use Rattle.chain.specs.declared.ResolvedPath.{ResolvedPath}
 use Rattle.chain.specs.Chain.{chainOf, resolved}
 use Rattle.chain.specs.Way.{Slots, placesOf}
@@ -161,8 +161,8 @@ module _ (journal image l words : List ℕ) (r : Rewind) where
               cond-cases P (ltb room (length (recordText journal image (stepOf depth d v)))) (λ _. none textFull) (λ h. some v f (ltb-false room (length (recordText journal image (stepOf depth d v))) h))
 
       -- what making it asks, with no index
-      pub made-asks : (way text : List ℕ) → depth + 1 ≤ length way → StepAsks journal image t [] [] (d .info .name) way 0 text
-      made-asks way text levels =
+      pub made-asks : (way text : List ℕ) → levels < length way → StepAsks journal image t [] [] (d .info .name) way 0 text
+      made-asks way text long =
           let w = record-next in
           record {
             fits = w .tests .fits;
@@ -172,7 +172,7 @@ module _ (journal image l words : List ℕ) (r : Rewind) where
             near-journal = w .tests .journal;
             near-image = w .tests .image;
             own = w .own;
-            levels = levels;
+            long = long;
             room = omega arith;
           }
 

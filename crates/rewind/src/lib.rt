@@ -16,7 +16,7 @@ ghost use Rattle.rewind.specs.Promise.{StartPromise, StartIndexedPromise
 use crate::start::begin;
 use additions::entries::replaces_forward;
 use chain::ResolvedPath;
-use chain::way::LEVELS;
+use chain::way::WAY_WORDS;
 use chain::way::list_chain;
 use chain::way::list_places;
 use entry_slots::links::is_enough;
@@ -162,7 +162,7 @@ pub fn rewind_next(
         Turn::Entry(entry) => {
             let mut heads: [u64; 0] = [];
             let mut nexts: [u64; 0] = [];
-            let mut way: [usize; LEVELS] = [0; LEVELS];
+            let mut way: [usize; WAY_WORDS] = [0; WAY_WORDS];
             let stand = Stand {
                 used: rewind.used,
                 at: 0,

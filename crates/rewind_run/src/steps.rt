@@ -2,13 +2,13 @@
 //
 // The functions here ask for tests that have passed and for an index that is the table's, and keep both. Heads of length 0 are no
 // index.
-ghost use Prim.Native.Nat.{_+_, _≤_};
+ghost use Prim.Native.Nat.{_≤_, _<_};
 ghost use lib.ListN.{length};
-ghost use Rattle.chain.specs.Settings.{depth};
+ghost use Rattle.chain.specs.Settings.{levels};
 ghost use Rattle.rewind_run.specs.Promise.{RunStepPromise, RunAsks, StepsPromise};
 use crate::RewindRun;
 use additions::entries::entry_at;
-use chain::way::LEVELS;
+use chain::way::WAY_WORDS;
 use read_ahead::ahead_of;
 use rewind::Rewind;
 use rewind_steps::Made;
@@ -34,7 +34,7 @@ fn run_step(
     text: &mut [u8],
 ) -> Made
     requires { ⌜ RunAsks (now journal) (now image) (now records) (now forward) (standing .rewind) (now heads) (now nexts) ⌝ }
-    requires { ⌜ (depth + 1 ≤ length (now way)) × (standing .at ≤ length (now text)) ⌝ }
+    requires { ⌜ (levels < length (now way)) × (standing .at ≤ length (now text)) ⌝ }
     ensures { λ r. ⌜ RunStepPromise journal image forward heads nexts way text records standing r ⌝ }
 {
     let rewind = standing.rewind;
@@ -80,7 +80,7 @@ pub(crate) fn run(
     let mut at: usize = 0;
     let mut i: usize = 0;
     let mut read: usize = 0;
-    let mut way: [usize; LEVELS] = [0; LEVELS];
+    let mut way: [usize; WAY_WORDS] = [0; WAY_WORDS];
     while i < ends.len() {
         read = ahead_of(
             journal,

@@ -22,11 +22,12 @@ use Rattle.entry_slots.specs.Index.{headsOf, nextsOf, Indexed, headsAfter, next
 use Rattle.entry_table.proofs.SeedLaws.{heads-long, nexts-long, index-again, index-then}
 use Rattle.chain.specs.Settings.{depth}
 use Rattle.path.specs.Ways.{entryText}
-use Rattle.chain.specs.Chain.{Chain, chainOf}
-use Rattle.chain.specs.Way.{Slots, placesOf, chainBy}
+use Rattle.chain.specs.Chain.{chainOf}
+use Rattle.chain.specs.Way.{Slots, placesOf, chainBy, resolvedBy}
 use Rattle.chain.specs.Promise.{Climbs}
 use Rattle.chain.specs.declared.ResolvedPath.{ResolvedPath}
-use Rattle.chain.proofs.WayLaws.{climbed-resolved, climbed-places, climbed-chain, climbed-slots}
+use Rattle.chain.specs.declared.way.Climbed.{Climbed}
+use Rattle.chain.proofs.WayLaws.{climbed-names, climbed-resolved, climbed-places, climbed-slots}
 use Rattle.path.proofs.WayLaws.{climbed-asks}
 use Rattle.path.specs.Promise.{WayAsks, Behinds}
 use Rattle.path.specs.declared.ways.Behind.{Behind}
@@ -46,13 +47,13 @@ pub tell-asks : {journal image : List ℕ} {t : Table} {heads nexts : List ℕ} 
 tell-asks asks = omega (arith, asks .fits)
 
 pub way-asks : (journal image : List ℕ) {t : Table} {heads nexts : List ℕ} {name : NamePlace} {way : List ℕ} {at : ℕ} {text : List ℕ}
-    → StepAsks journal image t heads nexts name way at text → {c : Chain} {r : ResolvedPath} {way′ : List ℕ} → Climbs t c way 0 r way′
-    → WayAsks journal image (t .words) way′ (r .names)
-way-asks journal image asks g = climbed-asks journal image _ _ _ g (tell-asks asks) (asks .names) (asks .near-journal) (asks .near-image)
+    → StepAsks journal image t heads nexts name way at text → {k : EntryKey} {r : Climbed} {way′ : List ℕ} → Climbs t k r way′
+    → WayAsks journal image (t .words) way′ r
+way-asks journal image asks g = climbed-asks journal image _ _ g (tell-asks asks) (asks .names) (asks .near-journal) (asks .near-image)
 
 -- the text of a record that the table has
-module _ (journal image : List ℕ) (u : Table) (parent : EntryKey) (name : NamePlace) (text : List ℕ) (at : ℕ) {way way′ : List ℕ} {p : ResolvedPath}
-    (up : Climbs u (chainOf u depth parent) way 0 p way′) (fits : u .used * stride ≤ length (u .words)) where
+module _ (journal image : List ℕ) (u : Table) (parent : EntryKey) (name : NamePlace) (text : List ℕ) (at : ℕ) {way′ : List ℕ} {p : Climbed}
+    (up : Climbs u parent p way′) (fits : u .used * stride ≤ length (u .words)) where
   abbrev step : Step
   step = stepWith depth parent name u
 
@@ -60,10 +61,10 @@ module _ (journal image : List ℕ) (u : Table) (parent : EntryKey) (name : Name
   more = entryText journal image (chainOf u depth parent) name
 
   slots : Slots (u .words) way′ (length (chainOf u depth parent .places))
-  slots = rw (climbed-resolved u (chainOf u depth parent) way up) at (climbed-slots u (chainOf u depth parent) way up fits)
+  slots = rw (climbed-names u parent up) at (climbed-slots u parent up fits)
 
   names-are : placesOf (u .words) way′ (length (chainOf u depth parent .places)) ≡ chainOf u depth parent .places
-  names-are = rw (climbed-resolved u (chainOf u depth parent) way up) at (climbed-places u (chainOf u depth parent) way up)
+  names-are = rw (climbed-names u parent up) at (climbed-places u parent up)
 
   same-text : more ≡ recordText journal image step
   unfolding entryText recordText
@@ -71,15 +72,15 @@ module _ (journal image : List ℕ) (u : Table) (parent : EntryKey) (name : Name
 
   module _ (m : ℕ) (nexts : List ℕ) (t : Table) {v : Behind} {y : List ℕ} (told : Behinds (entryText journal image (chainBy (u .words) way′ p) name) text at v y) where
     g : Behinds more text at v y
-    g = rw (climbed-chain u (chainOf u depth parent) way up) at told
+    g = rw (up .told) at told
 
     abbrev Tells : Made → List ℕ → List ℕ → List ℕ → List ℕ → List ℕ → Type 0
     Tells = StepLeaves journal image at m nexts text (telling journal image u parent name (length text - at)) t
 
-    pub tell-to : {to : ℕ} {h n : List ℕ} → v ≡ put.To to → h ≡ headsOf m u → n ≡ nextsOf m u nexts → Tells (To to (u .used) p) (u .words) h n way′ y
-    tell-to {to} {h} {n} f eh en = go (ltb (length text - at) (length more)) refl
+    pub tell-to : {to : ℕ} {h n : List ℕ} {q : ResolvedPath} → v ≡ put.To to → q ≡ resolvedBy p → h ≡ headsOf m u → n ≡ nextsOf m u nexts → Tells (To to (u .used) q) (u .words) h n way′ y
+    tell-to {to} {h} {n} {q} f eq eh en = go (ltb (length text - at) (length more)) refl
       where
-        go : (b : Bool) → ltb (length text - at) (length more) ≡ b → Tells (To to (u .used) p) (u .words) h n way′ y
+        go : (b : Bool) → ltb (length text - at) (length more) ≡ b → Tells (To to (u .used) q) (u .words) h n way′ y
         go true l = let z : put.To to ≡ put.Full = sym f ∙ g .answer ∙ rw l in let z : _≡_ {A = ℕ} 0 1 = cc in absurd (omega arith)
         go false l =
             let l′ : ltb (length text - at) (length (recordText journal image step)) ≡ false = rw (← same-text) l in
@@ -89,7 +90,7 @@ module _ (journal image : List ℕ) (u : Table) (parent : EntryKey) (name : Name
             let text-is : y ≡ sets text at more = g .written ∙ rw l in
             rw l′
             (record {
-              answer = λ i. To (to-is i) (u .used) (climbed-resolved u (chainOf u depth parent) way up i);
+              answer = λ i. To (to-is i) (u .used) ((eq ∙ climbed-resolved u parent up) i);
               forward = refl;
               heads-are = eh;
               nexts-are = en;
@@ -181,7 +182,7 @@ module _ (journal image : List ℕ) (t : Table) (e : RecordEntry) (text : List �
             near-journal = asks .near-journal;
             near-image = asks .near-image;
             own = asks .own;
-            levels = asks .levels;
+            long = asks .long;
             room = asks .room;
           },
           (after-slot g, after-old),

@@ -1,6 +1,6 @@
 -- What a step asks and promises. Each record says it of lists: what the lent slices hold before, and, with ′, after. The promise itself takes the call's
 -- parameters.
-use Prim.Native.Nat.{ℕ, _+_, _-_, _<_, _≤_}
+use Prim.Native.Nat.{ℕ, _-_, _<_, _≤_}
 use mathlib.Core.Path.{_≡_}
 use mathlib.Core.List.{List}
 use mathlib.Core.Bool.{true}
@@ -13,7 +13,7 @@ use Rattle.entry_slots.specs.Slots.{slotsIn, namesIn, putAt}
 use Rattle.entry_slots.specs.Table.{Table, table}
 use Rattle.entry_slots.specs.declared.NamePlace.{NamePlace}
 use Rattle.entry_slots.specs.Index.{headsOf, nextsOf, Indexed}
-use Rattle.chain.specs.Settings.{depth}
+use Rattle.chain.specs.Settings.{levels}
 use Rattle.rewind_records.specs.Turning.{Next}
 use Rattle.rewind_steps.specs.Taking.{Step}
 use Rattle.rewind_steps.specs.Telling.{telling}
@@ -23,7 +23,7 @@ use Rattle.rewind_steps.specs.declared.Entered.{Entered}
 use Rattle.rewind_steps.specs.declared.Made.{Made}
 
 -- what is known before a step: the table fits its words, the index is its own, with a link for every slot, all names are inside, the record's too, and the way
--- has room for every level
+-- has a word for every level and one more
 pub record StepAsks (journal image : List ℕ) (t : Table) (heads nexts : List ℕ) (name : NamePlace) (way : List ℕ) (at : ℕ) (text : List ℕ) : Type 0 where
   pub fits : t .used ≤ slotsIn (t .words)
   pub index : Indexed t heads nexts
@@ -32,7 +32,7 @@ pub record StepAsks (journal image : List ℕ) (t : Table) (heads nexts : List �
   pub near-journal : length journal ≤ domain
   pub near-image : length image ≤ domain
   pub own : inside (lengthsOf journal image) name ≡ true
-  pub levels : depth + 1 ≤ length way
+  pub long : levels < length way
   pub room : at ≤ length text
 
 -- what a step that comes to o leaves, from a table t, an index of m heads beside the words of nexts, and a text

@@ -10,8 +10,8 @@ ghost use Rattle.rewind_steps.specs.Promise.{StepAsks, TellPromise, Make
 use additions::entries::RecordEntry;
 use additions::entries::replaces_forward;
 use chain::ResolvedPath;
-use chain::way::LEVELS;
 use chain::way::climb;
+use chain::way::resolved;
 use entry_slots::EntryInfo;
 use entry_slots::EntryKey;
 use entry_slots::links::build;
@@ -79,31 +79,16 @@ fn tell(
 {
     let info = entered.info;
     let held = entered.held;
-    let path = climb(
-        forward,
-        stand.used,
-        heads,
-        nexts,
-        info.parent,
-        LEVELS,
-        way,
-        0,
-    );
-    match put_behind(
-        journal,
-        image,
-        forward,
-        way,
-        path,
-        info.name,
-        text,
-        stand.at,
-    ) {
-        Behind::To(to) => Made::To {
-            at: to,
-            used: stand.used,
-            path,
-        },
+    let up = climb(forward, stand.used, heads, nexts, info.parent, way);
+    match put_behind(journal, image, forward, way, up, info.name, text, stand.at) {
+        Behind::To(to) => {
+            let path = resolved(up);
+            Made::To {
+                at: to,
+                used: stand.used,
+                path,
+            }
+        }
         Behind::Full => {
             put(forward, held.slot, held.key, held.info);
             build(forward, held.used, heads, nexts);

@@ -14,7 +14,7 @@ use Rattle.rewind_steps.proofs.tell.Statement.{statement}
 use Rattle.rewind_steps.proofs.tell.Tie as tie
 
 climb-requires : tie.Need-climb-requires
-climb-requires c κs = ((tell-asks (c .before .before .before .before .before .before .before .before .before .before .before .before .before .pre .0), λ h. let g = c .before .before .before .before .before .before .before .before .before .before .before .before .before .pre .0 .wide h in omega (arith, c .before .before .before .before .before .before .before .before .before .before .before .before .before .pre .0 .fits)), (c .before .before .before .before .before .before .before .before .before .before .before .before .before .pre .0 .index, omega (arith, c .before .before .before .before .before .before .before .before .before .before .before .before .before .pre .0 .levels)))
+climb-requires c κs = ((tell-asks (c .before .before .before .before .before .before .before .before .before .before .before .before .before .pre .0), λ h. let g = c .before .before .before .before .before .before .before .before .before .before .before .before .before .pre .0 .wide h in omega (arith, c .before .before .before .before .before .before .before .before .before .before .before .before .before .pre .0 .fits)), (c .before .before .before .before .before .before .before .before .before .before .before .before .before .pre .0 .index, c .before .before .before .before .before .before .before .before .before .before .before .before .before .pre .0 .long))
 
 put-behind-requires : tie.Need-put-behind-requires
 put-behind-requires c κs = (way-asks _ _ (c .before .before .before .before .before .before .before .before .before .before .before .before .before .before .before .before .before .before .before .pre .0) (c .before .before .before .before .before .climb .ensures), (c .before .before .before .before .before .before .before .before .before .before .before .before .before .before .before .before .before .before .before .pre .0 .own, c .before .before .before .before .before .before .before .before .before .before .before .before .before .before .before .before .before .before .before .pre .0 .room))
@@ -22,11 +22,14 @@ put-behind-requires c κs = (way-asks _ _ (c .before .before .before .before .be
 enum-known-to : tie.Need-enum-known-to
 enum-known-to c = search needs
 
+resolved-requires : tie.Need-resolved-requires
+resolved-requires c κs = search needs
+
 enum-told : tie.Need-enum-told
 enum-told c = search needs
 
 put-requires : tie.Need-put-requires
-put-requires c κs = search needs
+put-requires c κs = omega (arith, c .before .before .before .before .before .before .before .before .before .before .before .before .before .before .before .before .before .before .before .before .before .before .before .before .before .pre .1 .0)
 
 build-requires : tie.Need-build-requires
 build-requires c κs = (omega (arith, simp length-put at (ap length (c .before .before .before .before .before .put .ensures)), c .before .before .before .before .before .before .before .before .before .before .before .before .before .before .before .before .before .before .before .before .before .before .before .before .before .before .before .before .before .before .before .pre .1 .1), λ h. let g = c .before .before .before .before .before .before .before .before .before .before .before .before .before .before .before .before .before .before .before .before .before .before .before .before .before .before .before .before .before .before .before .pre .0 .wide h in omega (arith, c .before .before .before .before .before .before .before .before .before .before .before .before .before .before .before .before .before .before .before .before .before .before .before .before .before .before .before .before .before .before .before .pre .1 .1))
@@ -47,7 +50,7 @@ same-length-5 : tie.Need-same-length-5
 same-length-5 c = search needs
 
 returns : tie.Need-returns
-returns c = let s = c .before .before .before .before .before .before .before .before .before .before .before .before .before .before .before .before .before .before .before .before .before .before .before .before .before .args in tell-to (s .journal .now) (s .image .now) (table (s .forward .now) (s .stand .used)) (s .entered .info .parent) (s .entered .info .name) (s .text .now) (s .stand .at) (c .before .before .before .before .before .before .before .before .before .before .before .climb .ensures) (tell-asks (c .before .before .before .before .before .before .before .before .before .before .before .before .before .before .before .before .before .before .before .before .before .before .before .before .before .pre .0)) (length (s .heads .now)) (s .nexts .now) (table (putAt (s .forward .now) (s .entered .held .slot) (s .entered .held .key) (s .entered .held .info)) (s .entered .held .used)) (c .before .before .before .before .before .put-behind .ensures) (c .before .to .given .1) (c .before .before .before .before .before .before .before .before .before .before .before .before .before .before .before .before .before .before .before .before .before .before .before .before .before .pre .0 .index .0) (c .before .before .before .before .before .before .before .before .before .before .before .before .before .before .before .before .before .before .before .before .before .before .before .before .before .pre .0 .index .1)
+returns c = let s = c .before .before .before .before .before .before .before .before .before .before .before .before .before .before .before .before .before .before .before .before .before .before .before .before .before .before .args in tell-to (s .journal .now) (s .image .now) (table (s .forward .now) (s .stand .used)) (s .entered .info .parent) (s .entered .info .name) (s .text .now) (s .stand .at) (c .before .before .before .before .before .before .before .before .before .before .before .before .climb .ensures) (tell-asks (c .before .before .before .before .before .before .before .before .before .before .before .before .before .before .before .before .before .before .before .before .before .before .before .before .before .before .pre .0)) (length (s .heads .now)) (s .nexts .now) (table (putAt (s .forward .now) (s .entered .held .slot) (s .entered .held .key) (s .entered .held .info)) (s .entered .held .used)) (c .before .before .before .before .before .before .put-behind .ensures) (c .before .before .to .given .1) (c .resolved .ensures) (c .before .before .before .before .before .before .before .before .before .before .before .before .before .before .before .before .before .before .before .before .before .before .before .before .before .before .pre .0 .index .0) (c .before .before .before .before .before .before .before .before .before .before .before .before .before .before .before .before .before .before .before .before .before .before .before .before .before .before .pre .0 .index .1)
 
 same-length-6 : tie.Need-same-length-6
 same-length-6 c = search needs
@@ -75,6 +78,7 @@ tell-spec =
     climb-requires
     put-behind-requires
     enum-known-to
+    resolved-requires
     enum-told
     put-requires
     build-requires

@@ -22,13 +22,16 @@ slice-aggregate-list-places : tie.Need-slice-aggregate-list-places
 slice-aggregate-list-places c = search needs
 
 list-places-requires : tie.Need-list-places-requires
-list-places-requires c κs = climbed-slots _ _ _ (c .before .before .before .climb .ensures) (c .before .before .before .before .before .before .before .before .pre)
+list-places-requires c κs = climbed-slots _ _ (c .before .before .before .climb .ensures) (c .before .before .before .before .before .before .before .before .pre)
+
+resolved-requires : tie.Need-resolved-requires
+resolved-requires c κs = search needs
 
 same-length : tie.Need-same-length
 same-length c = search needs
 
 returns : tie.Need-returns
-returns c = (climbed-resolved _ _ _ (c .before .before .before .before .before .before .climb .ensures), c .before .before .list-places .ensures ∙ ap (listed (c .before .before .before .before .before .before .before .before .before .before .before .args .list .now)) (climbed-places _ _ _ (c .before .before .before .before .before .before .climb .ensures)))
+returns c = (c .resolved .ensures ∙ climbed-resolved _ _ (c .before .before .before .before .before .before .before .climb .ensures), c .before .before .before .list-places .ensures ∙ ap (listed (c .before .before .before .before .before .before .before .before .before .before .before .before .args .list .now)) (climbed-places _ _ (c .before .before .before .before .before .before .before .climb .ensures)))
 
 pub list-chain-spec : {M : Type 1} → statement M
 list-chain-spec =
@@ -39,5 +42,6 @@ list-chain-spec =
     climb-requires
     slice-aggregate-list-places
     list-places-requires
+    resolved-requires
     same-length
     returns)

@@ -21,7 +21,7 @@ abbrev μ-loop : tie.MeasureT-loop
 μ-loop journal image slots way text₀ at to₀ left₀ text to left = left
 
 put-end-requires : tie.Need-put-end-requires Inv-loop μ-loop
-put-end-requires c κs = omega (arith, c .before .before .before .before .before .before .pre .1, path-long (c .before .before .before .before .before .before .args .journal .now) (c .before .before .before .before .before .before .args .image .now) (chainBy (c .before .before .before .before .before .before .args .slots .now) (c .before .before .before .before .before .before .args .way .now) (c .before .before .before .before .before .before .args .path)))
+put-end-requires c κs = omega (arith, c .before .before .before .before .before .before .pre .1, path-long (c .before .before .before .before .before .before .args .journal .now) (c .before .before .before .before .before .before .args .image .now) (chainBy (c .before .before .before .before .before .before .args .slots .now) (c .before .before .before .before .before .before .args .way .now) (c .before .before .before .before .before .before .args .up)))
 
 loop-holds : tie.Need-loop-holds Inv-loop μ-loop
 loop-holds c = (record { ends = refl; same = refl; count = refl }, omega arith)
@@ -39,7 +39,7 @@ info-at-requires : tie.Need-info-at-requires Inv-loop μ-loop
 info-at-requires c κs = c .before .before .before .before .before .before .before .before .before .before .before .before .pre .0 .slots .within _ (omega (arith, c .before .before .loop .inv .1, c .before .loop-test .taken))
 
 put-step-requires : tie.Need-put-step-requires Inv-loop μ-loop
-put-step-requires c κs = (rw (c .before .info-at .ensures) (c .before .before .before .before .before .before .before .before .before .before .before .before .before .before .pre .0 .insides _ (omega (arith, c .before .before .before .before .loop .inv .1, c .before .before .before .loop-test .taken))), rw (c .before .info-at .ensures) (telling-room (c .before .before .before .before .loop .inv .0) (stepText (c .before .before .before .before .before .before .before .before .before .before .before .before .before .before .args .journal .now) (c .before .before .before .before .before .before .before .before .before .before .before .before .before .before .args .image .now) (nameAt (c .before .before .before .before .before .before .before .before .before .before .before .before .before .before .args .slots .now) (getD (c .before .before .before .before .before .before .before .before .before .before .before .before .before .before .args .way .now) (c .before .before .before .before .loop .left - 1) 0))) (namesText (c .before .before .before .before .before .before .before .before .before .before .before .before .before .before .args .journal .now) (c .before .before .before .before .before .before .before .before .before .before .before .before .before .before .args .image .now) (placesOf (c .before .before .before .before .before .before .before .before .before .before .before .before .before .before .args .slots .now) (c .before .before .before .before .before .before .before .before .before .before .before .before .before .before .args .way .now) (c .before .before .before .before .loop .left - 1))) (text-less (c .before .before .before .before .before .before .before .before .before .before .before .before .before .before .args .slots .now) (c .before .before .before .before .before .before .before .before .before .before .before .before .before .before .args .way .now) (c .before .before .before .before .loop .left) (c .before .before .before .loop-test .taken) (c .before .before .before .before .before .before .before .before .before .before .before .before .before .before .args .journal .now) (c .before .before .before .before .before .before .before .before .before .before .before .before .before .before .args .image .now)) (omega (arith, c .before .before .before .before .before .before .before .before .before .before .before .before .before .before .pre .1, path-long (c .before .before .before .before .before .before .before .before .before .before .before .before .before .before .args .journal .now) (c .before .before .before .before .before .before .before .before .before .before .before .before .before .before .args .image .now) (chainBy (c .before .before .before .before .before .before .before .before .before .before .before .before .before .before .args .slots .now) (c .before .before .before .before .before .before .before .before .before .before .before .before .before .before .args .way .now) (c .before .before .before .before .before .before .before .before .before .before .before .before .before .before .args .path)), c .before .before .before .before .before .before .before .put-end .ensures .0, ap length (c .before .before .before .before .before .before .before .put-end .ensures .1), length-sets (c .before .before .before .before .before .before .before .before .before .before .before .before .before .before .args .text .now) (c .before .before .before .before .before .before .before .before .before .before .before .before .before .before .args .at) (endText (c .before .before .before .before .before .before .before .before .before .before .before .before .before .before .args .path .end))))))
+put-step-requires c κs = (rw (c .before .info-at .ensures) (c .before .before .before .before .before .before .before .before .before .before .before .before .before .before .pre .0 .insides _ (omega (arith, c .before .before .before .before .loop .inv .1, c .before .before .before .loop-test .taken))), rw (c .before .info-at .ensures) (telling-room (c .before .before .before .before .loop .inv .0) (stepText (c .before .before .before .before .before .before .before .before .before .before .before .before .before .before .args .journal .now) (c .before .before .before .before .before .before .before .before .before .before .before .before .before .before .args .image .now) (nameAt (c .before .before .before .before .before .before .before .before .before .before .before .before .before .before .args .slots .now) (getD (c .before .before .before .before .before .before .before .before .before .before .before .before .before .before .args .way .now) (c .before .before .before .before .loop .left - 1) 0))) (namesText (c .before .before .before .before .before .before .before .before .before .before .before .before .before .before .args .journal .now) (c .before .before .before .before .before .before .before .before .before .before .before .before .before .before .args .image .now) (placesOf (c .before .before .before .before .before .before .before .before .before .before .before .before .before .before .args .slots .now) (c .before .before .before .before .before .before .before .before .before .before .before .before .before .before .args .way .now) (c .before .before .before .before .loop .left - 1))) (text-less (c .before .before .before .before .before .before .before .before .before .before .before .before .before .before .args .slots .now) (c .before .before .before .before .before .before .before .before .before .before .before .before .before .before .args .way .now) (c .before .before .before .before .loop .left) (c .before .before .before .loop-test .taken) (c .before .before .before .before .before .before .before .before .before .before .before .before .before .before .args .journal .now) (c .before .before .before .before .before .before .before .before .before .before .before .before .before .before .args .image .now)) (omega (arith, c .before .before .before .before .before .before .before .before .before .before .before .before .before .before .pre .1, path-long (c .before .before .before .before .before .before .before .before .before .before .before .before .before .before .args .journal .now) (c .before .before .before .before .before .before .before .before .before .before .before .before .before .before .args .image .now) (chainBy (c .before .before .before .before .before .before .before .before .before .before .before .before .before .before .args .slots .now) (c .before .before .before .before .before .before .before .before .before .before .before .before .before .before .args .way .now) (c .before .before .before .before .before .before .before .before .before .before .before .before .before .before .args .up)), c .before .before .before .before .before .before .before .put-end .ensures .0, ap length (c .before .before .before .before .before .before .before .put-end .ensures .1), length-sets (c .before .before .before .before .before .before .before .before .before .before .before .before .before .before .args .text .now) (c .before .before .before .before .before .before .before .before .before .before .before .before .before .before .args .at) (endText (c .before .before .before .before .before .before .before .before .before .before .before .before .before .before .args .up .end))))))
 
 loop-less : tie.Need-loop-less Inv-loop μ-loop
 loop-less c = omega (arith, c .before .before .before .before .before .before .loop-test .taken)
@@ -51,7 +51,7 @@ same-length : tie.Need-same-length Inv-loop μ-loop
 same-length c = search needs
 
 returns : tie.Need-returns Inv-loop μ-loop
-returns c = both-put (c .before .before .before .before .before .before .before .before .before .before .before .args .text .now) (c .before .before .before .before .before .before .before .before .before .before .before .args .at) (endText (c .before .before .before .before .before .before .before .before .before .before .before .args .path .end)) (namesText (c .before .before .before .before .before .before .before .before .before .before .before .args .journal .now) (c .before .before .before .before .before .before .before .before .before .before .before .args .image .now) (placesOf (c .before .before .before .before .before .before .before .before .before .before .before .args .slots .now) (c .before .before .before .before .before .before .before .before .before .before .before .args .way .now) (c .before .before .before .before .before .before .before .before .before .before .before .args .path .names))) (path-parts (c .before .before .before .before .before .before .before .before .before .before .before .args .journal .now) (c .before .before .before .before .before .before .before .before .before .before .before .args .image .now) (chainBy (c .before .before .before .before .before .before .before .before .before .before .before .args .slots .now) (c .before .before .before .before .before .before .before .before .before .before .before .args .way .now) (c .before .before .before .before .before .before .before .before .before .before .before .args .path))) (c .before .before .before .before .put-end .ensures) (telling-end (c .before .loop .inv .0) (text-none (c .before .before .before .before .before .before .before .before .before .before .before .args .slots .now) (c .before .before .before .before .before .before .before .before .before .before .before .args .way .now) (c .before .before .before .before .before .before .before .before .before .before .before .args .journal .now) (c .before .before .before .before .before .before .before .before .before .before .before .args .image .now) (omega (arith, c .loop-test .left))))
+returns c = both-put (c .before .before .before .before .before .before .before .before .before .before .before .args .text .now) (c .before .before .before .before .before .before .before .before .before .before .before .args .at) (endText (c .before .before .before .before .before .before .before .before .before .before .before .args .up .end)) (namesText (c .before .before .before .before .before .before .before .before .before .before .before .args .journal .now) (c .before .before .before .before .before .before .before .before .before .before .before .args .image .now) (placesOf (c .before .before .before .before .before .before .before .before .before .before .before .args .slots .now) (c .before .before .before .before .before .before .before .before .before .before .before .args .way .now) (c .before .before .before .before .before .before .before .before .before .before .before .args .up .names))) (path-parts (c .before .before .before .before .before .before .before .before .before .before .before .args .journal .now) (c .before .before .before .before .before .before .before .before .before .before .before .args .image .now) (chainBy (c .before .before .before .before .before .before .before .before .before .before .before .args .slots .now) (c .before .before .before .before .before .before .before .before .before .before .before .args .way .now) (c .before .before .before .before .before .before .before .before .before .before .before .args .up))) (c .before .before .before .before .put-end .ensures) (telling-end (c .before .loop .inv .0) (text-none (c .before .before .before .before .before .before .before .before .before .before .before .args .slots .now) (c .before .before .before .before .before .before .before .before .before .before .before .args .way .now) (c .before .before .before .before .before .before .before .before .before .before .before .args .journal .now) (c .before .before .before .before .before .before .before .before .before .before .before .args .image .now) (omega (arith, c .loop-test .left))))
 
 pub put-way-spec : {M : Type 1} → statement M
 put-way-spec =

@@ -1,88 +1,21 @@
--- The invariant: the most that the names left can take, with what is spent, is the most of all.
-use Prim.Native.Nat.{_+_, _≤_}
-use mathlib.Core.Path.{_≡_, ap}
+-- The bound first, so that no sum can wrap.
+use Prim.Native.Nat.{_+_}
 use native.Mathlib.Omega.{arith}
 use borrow.Author.Needs.{needs}
-use Rattle.entry_slots.specs.declared.EntryInfo.{EntryInfo}
-use Rattle.chain.specs.Way.{placesOf, chainBy}
-use Rattle.path.specs.Ways.{namesBound, pathBound}
-use Rattle.path.proofs.BoundLaws.{fits-so, fits-not, bound-less, bound-none}
+use lib.ListN.{length}
+use Rattle.path_text.specs.Text.{endText}
+use Rattle.path.proofs.BoundLaws.{fits-not, fits-less}
 use Rattle.path.proofs.ways.surely_fits.Statement.{statement}
 use Rattle.path.proofs.ways.surely_fits.Tie as tie
 
-abbrev Inv-loop : tie.InvT-loop
-Inv-loop slots way room ending spare₀ left₀ spare left = (ending + namesBound (placesOf slots way left₀) + spare ≡ namesBound (placesOf slots way left) + room) × ((left ≤ left₀) × (spare ≤ room))
+returns : tie.Need-returns
+returns c = fits-not (length (endText (c .before .before .args .up .end)) + c .before .before .args .up .bound) (c .before .before .args .room) (omega (arith, c .if1 .taken))
 
-abbrev μ-loop : tie.MeasureT-loop
-μ-loop slots way room ending spare₀ left₀ spare left = left
-
-end-length-requires : tie.Need-end-length-requires Inv-loop μ-loop
+end-length-requires : tie.Need-end-length-requires
 end-length-requires c κs = search needs
 
-returns : tie.Need-returns Inv-loop μ-loop
-returns c = fits-not (pathBound (chainBy (c .before .before .before .before .args .slots .now) (c .before .before .before .before .args .way .now) (c .before .before .before .before .args .path))) (c .before .before .before .before .args .room) (omega (arith, c .if1 .taken, c .before .end-length .ensures .0))
-
-loop-holds : tie.Need-loop-holds Inv-loop μ-loop
-loop-holds c = (omega (arith, c .if1 .left), (omega arith, omega arith))
-
-sub-left : tie.Need-sub-left Inv-loop μ-loop
-sub-left c = search needs
-
-mul-info-at : tie.Need-mul-info-at Inv-loop μ-loop
-mul-info-at c = omega (arith, c .before .loop .inv .1 .0, c .before .before .before .before .before .before .pre .short, c .before .before .before .before .before .before .good)
-
-shared-slice-read-info-at : tie.Need-shared-slice-read-info-at Inv-loop μ-loop
-shared-slice-read-info-at c = omega (arith, c .before .before .loop .inv .1 .0, c .before .loop-test .taken, c .before .before .before .before .before .before .before .pre .short)
-
-info-at-requires : tie.Need-info-at-requires Inv-loop μ-loop
-info-at-requires c κs = c .before .before .before .before .before .before .before .pre .within _ (omega (arith, c .before .before .loop .inv .1 .0, c .before .loop-test .taken))
-
-returns-2 : tie.Need-returns-2 Inv-loop μ-loop
-returns-2 c = fits-not (pathBound (chainBy (c .before .before .before .before .before .before .before .before .before .before .before .args .slots .now) (c .before .before .before .before .before .before .before .before .before .before .before .args .way .now) (c .before .before .before .before .before .before .before .before .before .before .before .args .path))) (c .before .before .before .before .before .before .before .before .before .before .before .args .room) (omega (arith, c .if2 .taken, c .before .before .before .before .before .before .loop .inv .0, c .before .before .before .before .before .before .before .before .end-length .ensures .0, bound-less (c .before .before .before .before .before .before .before .before .before .before .before .args .slots .now) (c .before .before .before .before .before .before .before .before .before .before .before .args .way .now) (c .before .before .before .before .before .before .loop .left) (c .before .before .before .before .before .loop-test .taken)))
-
-sub-if3 : tie.Need-sub-if3 Inv-loop μ-loop
-sub-if3 c = omega (arith, c .if2 .left)
-
-returns-3 : tie.Need-returns-3 Inv-loop μ-loop
-returns-3 c = fits-not (pathBound (chainBy (c .before .before .before .before .before .before .before .before .before .before .before .before .args .slots .now) (c .before .before .before .before .before .before .before .before .before .before .before .before .args .way .now) (c .before .before .before .before .before .before .before .before .before .before .before .before .args .path))) (c .before .before .before .before .before .before .before .before .before .before .before .before .args .room) (omega (arith, c .if3 .taken, c .before .if2 .left, c .before .before .before .before .before .before .before .loop .inv .0, c .before .before .before .before .before .before .before .before .before .end-length .ensures .0, bound-less (c .before .before .before .before .before .before .before .before .before .before .before .before .args .slots .now) (c .before .before .before .before .before .before .before .before .before .before .before .before .args .way .now) (c .before .before .before .before .before .before .before .loop .left) (c .before .before .before .before .before .before .loop-test .taken), ap (λ (e : EntryInfo). e .name .length) (c .before .before .before .before .info-at .ensures)))
-
-mul-spare : tie.Need-mul-spare Inv-loop μ-loop
-mul-spare c = omega (arith, c .if3 .left, c .before .before .before .before .before .before .before .loop .inv .1 .1)
-
-add-spare : tie.Need-add-spare Inv-loop μ-loop
-add-spare c = omega (arith, c .if3 .left, c .before .before .before .before .before .before .before .loop .inv .1 .1)
-
-sub-spare : tie.Need-sub-spare Inv-loop μ-loop
-sub-spare c = omega (arith, c .if3 .left, c .before .if2 .left)
-
-loop-less : tie.Need-loop-less Inv-loop μ-loop
-loop-less c = omega (arith, c .before .before .before .before .before .before .loop-test .taken)
-
-loop-again : tie.Need-loop-again Inv-loop μ-loop
-loop-again c = (omega (arith, c .if3 .left, c .before .if2 .left, c .before .before .before .before .before .before .before .loop .inv .0, bound-less (c .before .before .before .before .before .before .before .before .before .before .before .before .args .slots .now) (c .before .before .before .before .before .before .before .before .before .before .before .before .args .way .now) (c .before .before .before .before .before .before .before .loop .left) (c .before .before .before .before .before .before .loop-test .taken), ap (λ (e : EntryInfo). e .name .length) (c .before .before .before .before .info-at .ensures)), (omega (arith, c .before .before .before .before .before .before .before .loop .inv .1 .0), omega (arith, c .before .before .before .before .before .before .before .loop .inv .1 .1)))
-
-returns-4 : tie.Need-returns-4 Inv-loop μ-loop
-returns-4 c = fits-so (pathBound (chainBy (c .before .before .before .before .before .before .args .slots .now) (c .before .before .before .before .before .before .args .way .now) (c .before .before .before .before .before .before .args .path))) (c .before .before .before .before .before .before .args .room) (omega (arith, c .before .loop .inv .0, c .before .before .before .end-length .ensures .0, bound-none (c .before .before .before .before .before .before .args .slots .now) (c .before .before .before .before .before .before .args .way .now) {n = c .before .loop .left} (omega (arith, c .loop-test .left))))
+returns-2 : tie.Need-returns-2
+returns-2 c = fits-less (c .before .end-length .result) (c .before .before .before .before .args .up .bound) (c .before .before .before .before .args .room) (c .before .before .if1 .left) (omega (arith, c .before .end-length .ensures .0))
 
 pub surely-fits-spec : {M : Type 1} → statement M
-surely-fits-spec =
-    tie.close
-    (tie.spec
-    Inv-loop
-    μ-loop
-    end-length-requires
-    returns
-    loop-holds
-    sub-left
-    mul-info-at
-    shared-slice-read-info-at
-    info-at-requires
-    returns-2
-    sub-if3
-    returns-3
-    mul-spare
-    add-spare
-    sub-spare
-    loop-less
-    loop-again
-    returns-4)
+surely-fits-spec = tie.close (tie.spec returns end-length-requires returns-2)

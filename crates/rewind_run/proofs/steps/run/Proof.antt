@@ -11,7 +11,7 @@ use Rattle.rewind_run.proofs.steps.run.Tie as tie
 
 abbrev Inv-loop : tie.InvT-loop
 Inv-loop journal image records forward₀ heads₀ nexts₀ ends₀ text₀ used₀ position₀ at₀ i₀ read₀ way₀ forward heads nexts ends text used position at i read way =
-    Going journal image records forward₀ (stateOf used₀ position₀) heads₀ nexts₀ ends₀ text₀ forward heads nexts ends text used position at i × (length way ≡ 257)
+    Going journal image records forward₀ (stateOf used₀ position₀) heads₀ nexts₀ ends₀ text₀ forward heads nexts ends text used position at i × (length way ≡ 258)
 
 abbrev μ-loop : tie.MeasureT-loop
 μ-loop journal image records forward₀ heads₀ nexts₀ ends₀ text₀ used₀ position₀ at₀ i₀ read₀ way₀ forward heads nexts ends text used position at i read way =

@@ -35,7 +35,7 @@ make-step-requires c κs =
       near-journal = p .journal;
       near-image = p .image;
       own = own-inside (s .journal .now) (s .image .now) (s .records .now) (s .forward .now) (s .standing .rewind .used) (s .standing .rewind .position) (root .pre .0 .passes) (c .before .before .before .before .before .before .before .if1 .left) (c .before .before .before .before .before .entry-at .ensures);
-      levels = root .pre .1 .0;
+      long = root .pre .1 .0;
       room = root .pre .1 .1;
     }
 
