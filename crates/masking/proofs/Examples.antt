@@ -33,8 +33,8 @@ use Rattle.usn_reader.specs.declared.Reading.{Reading}
 use Rattle.usn_reader.proofs.RunLaws.{journalReading, journalReadings, run-journal}
 use Rattle.usn_reader.proofs.CountLaws.{delivery-carries}
 use Rattle.usn_reader.proofs.TwoRuns.{fresh-filled}
-use Rattle.mft_carver.specs.Filename.{replaces, keep}
-use Rattle.mft_carver.specs.Attributes.{given, attributeAt, filenameIn, visit as attributeVisit}
+use Rattle.mft_attributes.specs.Filename.{replaces, keep}
+use Rattle.mft_attributes.specs.Attributes.{given, attributeAt, filenameIn, visit as attributeVisit}
 use Rattle.mft_carver.specs.Entry.{hasSignature, judged as entryJudged}
 use Rattle.mft_carver.specs.Carve.{visit as imageVisit, carving as imageCarving, carvingList as imageList}
 use Rattle.mft_carver.specs.Settings.{standard as imageStandard}

@@ -1,9 +1,9 @@
 -- The invariant: what is kept, with the attributes left, is what is kept at the end.
 use borrow.Author.Needs.{needs}
 use native.Mathlib.Omega.{arith}
-use Rattle.mft_carver.proofs.FilenameLaws.{Keeping, keeping-start, keeping-none, keeping-end, keeping-other, keeping-named}
-use Rattle.mft_carver.proofs.attributes.best_filename.Statement.{statement}
-use Rattle.mft_carver.proofs.attributes.best_filename.Tie as tie
+use Rattle.mft_attributes.proofs.FilenameLaws.{Keeping, keeping-start, keeping-none, keeping-end, keeping-other, keeping-named}
+use Rattle.mft_attributes.proofs.attributes.best_filename.Statement.{statement}
+use Rattle.mft_attributes.proofs.attributes.best_filename.Tie as tie
 
 abbrev Inv-loop : tie.InvT-loop
 Inv-loop entry first walked best₀ a₀ left₀ best a left = Keeping entry first walked best a left

@@ -3,9 +3,9 @@ use Prim.Native.Nat.{ℕ}
 use mathlib.Core.List.{List, [], _∷_}
 use mathlib.Core.Bool.{Bool, cond, not, _&&_, _||_}
 use lib.Dec.{eqb}
-use Rattle.mft_carver.specs.declared.filename.Filename.{Filename}
-use Rattle.mft_carver.specs.declared.filename.Kept.{Kept}
-use Rattle.mft_carver.specs.declared.filename.Kept.the-variants.{Nothing, Name}
+use Rattle.mft_attributes.specs.declared.filename.Filename.{Filename}
+use Rattle.mft_attributes.specs.declared.filename.Kept.{Kept}
+use Rattle.mft_attributes.specs.declared.filename.Kept.the-variants.{Nothing, Name}
 
 -- the namespaces of a name: Win32, DOS (the short name of 8 and 3 characters), and one name for both
 abbrev pub win32 : ℕ

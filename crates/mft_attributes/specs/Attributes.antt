@@ -7,10 +7,10 @@ use lib.Dec.{ltb, leb, eqb}
 use Rattle.walk.specs.Walk.{Visit, stop, go, walk}
 use Rattle.usn_record.specs.Bytes.{leAt}
 use Rattle.usn_record.specs.Fields.{referenceOf}
-use Rattle.mft_carver.specs.Filename.{Attribute, other, named, keepAll}
-use Rattle.mft_carver.specs.declared.filename.Filename.{Filename}
-use Rattle.mft_carver.specs.declared.filename.Kept.{Kept}
-use Rattle.mft_carver.specs.declared.filename.Kept.the-variants.{Nothing}
+use Rattle.mft_attributes.specs.Filename.{Attribute, other, named, keepAll}
+use Rattle.mft_attributes.specs.declared.filename.Filename.{Filename}
+use Rattle.mft_attributes.specs.declared.filename.Kept.{Kept}
+use Rattle.mft_attributes.specs.declared.filename.Kept.the-variants.{Nothing}
 
 -- the type of a $FILE_NAME attribute, and the mark after the last attribute
 abbrev pub fileName : ℕ

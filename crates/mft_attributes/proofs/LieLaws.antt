@@ -12,11 +12,11 @@ use Rattle.walk.specs.Walk.{Visit, stop, go, after, walk}
 use Rattle.walk.proofs.ChoiceLaws.{cond-cases, and-left, and-right, or-left, or-right}
 use Rattle.walk.proofs.WalkLaws.{Forward}
 use Rattle.usn_record.specs.Bytes.{leAt}
-use Rattle.mft_carver.specs.Filename.{replaces, Attribute, other, named, keep, keepAll}
-use Rattle.mft_carver.specs.Attributes.{endMarker, fixed, Header, headerAt, Content, contentAt, isFilename, given, attributeAt, visit, attributesIn, filenameIn}
-use Rattle.mft_carver.specs.declared.filename.Filename.{Filename}
-use Rattle.mft_carver.specs.declared.filename.Kept.{Kept}
-use Rattle.mft_carver.specs.declared.filename.Kept.the-variants.{Nothing, Name}
+use Rattle.mft_attributes.specs.Filename.{replaces, Attribute, other, named, keep, keepAll}
+use Rattle.mft_attributes.specs.Attributes.{endMarker, fixed, Header, headerAt, Content, contentAt, isFilename, given, attributeAt, visit, attributesIn, filenameIn}
+use Rattle.mft_attributes.specs.declared.filename.Filename.{Filename}
+use Rattle.mft_attributes.specs.declared.filename.Kept.{Kept}
+use Rattle.mft_attributes.specs.declared.filename.Kept.the-variants.{Nothing, Name}
 
 -- a name that begins at low or after, is not empty, and ends at end or before
 pub record Lies (low end : ℕ) (f : Filename) : Type 0 where

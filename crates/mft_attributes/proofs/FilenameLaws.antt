@@ -8,14 +8,14 @@ use native.Mathlib.Omega.{arith}
 use lib.Dec.{eqb}
 use borrow.Author.Tests.{ne-eqb}
 use Rattle.walk.specs.Walk.{Visit, after, walk}
-use Rattle.mft_carver.specs.Filename.{win32, dos, win32AndDos, replaces, Attribute, other, named, keep, keepAll}
-use Rattle.mft_carver.specs.Attributes.{visit, attributesIn, filenameIn}
-use Rattle.mft_carver.specs.Step.{attributeOf}
-use Rattle.mft_carver.specs.declared.attributes.AttributeStep.{AttributeStep}
-use Rattle.mft_carver.specs.declared.attributes.AttributeStep.the-variants.{End, Other, Named}
-use Rattle.mft_carver.specs.declared.filename.Filename.{Filename}
-use Rattle.mft_carver.specs.declared.filename.Kept.{Kept}
-use Rattle.mft_carver.specs.declared.filename.Kept.the-variants.{Nothing, Name}
+use Rattle.mft_attributes.specs.Filename.{win32, dos, win32AndDos, replaces, Attribute, other, named, keep, keepAll}
+use Rattle.mft_attributes.specs.Attributes.{visit, attributesIn, filenameIn}
+use Rattle.mft_attributes.specs.Step.{attributeOf}
+use Rattle.mft_attributes.specs.declared.attributes.AttributeStep.{AttributeStep}
+use Rattle.mft_attributes.specs.declared.attributes.AttributeStep.the-variants.{End, Other, Named}
+use Rattle.mft_attributes.specs.declared.filename.Filename.{Filename}
+use Rattle.mft_attributes.specs.declared.filename.Kept.{Kept}
+use Rattle.mft_attributes.specs.declared.filename.Kept.the-variants.{Nothing, Name}
 
 module _ (old new : ℕ) where
   pub win32-stays : old ≡ win32 → false ≡ replaces old new

@@ -1,7 +1,7 @@
 -- Each way out by its namespaces.
-use Rattle.mft_carver.proofs.FilenameLaws.{win32-stays, both-stays, dos-replaces-none}
-use Rattle.mft_carver.proofs.filename.dominated.Statement.{statement}
-use Rattle.mft_carver.proofs.filename.dominated.Tie as tie
+use Rattle.mft_attributes.proofs.FilenameLaws.{win32-stays, both-stays, dos-replaces-none}
+use Rattle.mft_attributes.proofs.filename.dominated.Statement.{statement}
+use Rattle.mft_attributes.proofs.filename.dominated.Tie as tie
 
 returns : tie.Need-returns
 returns c = win32-stays _ _ (c .if1 .taken)

@@ -13,9 +13,9 @@ use Rattle.walk.proofs.ChoiceLaws.{and-false}
 use Rattle.usn_record.specs.Bytes.{leAt}
 use Rattle.usn_record.specs.Fields.{referenceOf}
 use Rattle.usn_record.specs.declared.fields.Reference.{Reference}
-use Rattle.mft_carver.specs.Filename.{Attribute, other, named}
-use Rattle.mft_carver.specs.Attributes.{fileName, endMarker, fixed, Header, headerAt, Content, contentAt, isFilename, filenameOf, given, attributeAt, visit}
-use Rattle.mft_carver.specs.declared.filename.Filename.{Filename}
+use Rattle.mft_attributes.specs.Filename.{Attribute, other, named}
+use Rattle.mft_attributes.specs.Attributes.{fileName, endMarker, fixed, Header, headerAt, Content, contentAt, isFilename, filenameOf, given, attributeAt, visit}
+use Rattle.mft_attributes.specs.declared.filename.Filename.{Filename}
 
 -- the attribute at a gives no name by its type
 pub other-type : (e : List ℕ) (a : ℕ) {k : ℕ} → k ≡ leAt 4 e a → (k ≡ fileName → ⊥) → other ≡ attributeAt e a (headerAt e a)

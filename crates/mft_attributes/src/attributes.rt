@@ -5,8 +5,8 @@ ghost use lib.ListN.{length};
 ghost use Rattle.walk.specs.Walk.{go};
 ghost use mathlib.Core.List.{[], _∷_};
 ghost use Rattle.usn_record.specs.Bytes.{leAt};
-ghost use Rattle.mft_carver.specs.Attributes.{fileName, headerAt, attributeAt, visit, filenameIn};
-ghost use Rattle.mft_carver.specs.Step.{attributeOf};
+ghost use Rattle.mft_attributes.specs.Attributes.{fileName, headerAt, attributeAt, visit, filenameIn};
+ghost use Rattle.mft_attributes.specs.Step.{attributeOf};
 use crate::filename::Filename;
 use crate::filename::Kept;
 use crate::filename::keep_better;
@@ -30,7 +30,7 @@ pub enum AttributeStep {
 }
 
 // The best name among the first attributes, from first on, at most walked of them.
-pub(crate) fn best_filename(entry: &[u8], first: usize, walked: usize) -> Kept
+pub fn best_filename(entry: &[u8], first: usize, walked: usize) -> Kept
     ensures { λ r. ⌜ r ≡ filenameIn walked (now (entry .entry)) first ⌝ }
 {
     let mut best = Kept::Nothing;

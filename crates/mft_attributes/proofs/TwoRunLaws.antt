@@ -1,4 +1,4 @@
--- Two runs over images that differ in the names of the first run's carved entries alone come out the same. Assumes nothing.
+-- Two entries that differ in names of their attributes alone, or in the kept one alone, keep the same name. Assumes nothing.
 --
 -- A name's length is a byte before the name. Where the content that it stands in passes its attribute, that byte may lie in the name of
 -- another attribute; but then no name could end inside the attribute, whatever the byte says.
@@ -20,13 +20,13 @@ use Rattle.walk.proofs.MaskedLaws.{apart-append, apart-all, Same, Before, walk-
 use Rattle.walk.proofs.WalkLaws.{Forward}
 use Rattle.usn_record.specs.Bytes.{leAt}
 use Rattle.usn_record.proofs.ByteLaws.{read-agree}
-use Rattle.mft_carver.specs.Filename.{replaces, Attribute, other, named, keep, keepAll}
-use Rattle.mft_carver.specs.Attributes.{endMarker, fixed, Header, headerAt, Content, contentAt, isFilename, given, attributeAt, visit, attributesIn, filenameIn}
-use Rattle.mft_carver.specs.declared.filename.Filename.{Filename}
-use Rattle.mft_carver.specs.declared.filename.Kept.{Kept}
-use Rattle.mft_carver.specs.declared.filename.Kept.the-variants.{Nothing, Name}
-use Rattle.mft_carver.proofs.AttributeLaws.{given-past}
-use Rattle.mft_carver.proofs.LieLaws.{Lies, NameLies, given-lies, Shape, ends, passes, visit-shape, visit-forward, attributes-lie}
+use Rattle.mft_attributes.specs.Filename.{replaces, Attribute, other, named, keep, keepAll}
+use Rattle.mft_attributes.specs.Attributes.{endMarker, fixed, Header, headerAt, Content, contentAt, isFilename, given, attributeAt, visit, attributesIn, filenameIn}
+use Rattle.mft_attributes.specs.declared.filename.Filename.{Filename}
+use Rattle.mft_attributes.specs.declared.filename.Kept.{Kept}
+use Rattle.mft_attributes.specs.declared.filename.Kept.the-variants.{Nothing, Name}
+use Rattle.mft_attributes.proofs.AttributeLaws.{given-past}
+use Rattle.mft_attributes.proofs.LieLaws.{Lies, NameLies, given-lies, Shape, ends, passes, visit-shape, visit-forward, attributes-lie}
 
 -- the name of an attribute, and the one that is kept
 abbrev pub nameOf : Attribute → List Place

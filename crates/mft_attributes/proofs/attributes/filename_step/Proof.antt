@@ -1,9 +1,9 @@
 -- Each way out by the tests that led to it.
 use native.Mathlib.Omega.{arith}
-use Rattle.mft_carver.proofs.AttributeLaws.{flag-past, non-resident, short-content, past-content, no-units, past-name, gives-name, stepped}
+use Rattle.mft_attributes.proofs.AttributeLaws.{flag-past, non-resident, short-content, past-content, no-units, past-name, gives-name, stepped}
 use borrow.Author.Needs.{needs}
-use Rattle.mft_carver.proofs.attributes.filename_step.Statement.{statement}
-use Rattle.mft_carver.proofs.attributes.filename_step.Tie as tie
+use Rattle.mft_attributes.proofs.attributes.filename_step.Statement.{statement}
+use Rattle.mft_attributes.proofs.attributes.filename_step.Tie as tie
 
 add-next : tie.Need-add-next
 add-next c = search needs

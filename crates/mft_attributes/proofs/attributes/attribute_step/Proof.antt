@@ -1,10 +1,10 @@
 -- Each way out by the tests that led to it.
 use native.Mathlib.Omega.{arith}
 use mathlib.Core.Path.{sym, _∙_}
-use Rattle.mft_carver.proofs.AttributeLaws.{few-left, marked, too-short, too-long, walked-on, walked-other}
+use Rattle.mft_attributes.proofs.AttributeLaws.{few-left, marked, too-short, too-long, walked-on, walked-other}
 use borrow.Author.Needs.{needs}
-use Rattle.mft_carver.proofs.attributes.attribute_step.Statement.{statement}
-use Rattle.mft_carver.proofs.attributes.attribute_step.Tie as tie
+use Rattle.mft_attributes.proofs.attributes.attribute_step.Statement.{statement}
+use Rattle.mft_attributes.proofs.attributes.attribute_step.Tie as tie
 
 returns : tie.Need-returns
 returns c = few-left _ _ (omega arith)

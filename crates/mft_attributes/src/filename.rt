@@ -1,6 +1,6 @@
 // The names of an entry, and which of them is kept.
 ghost use mathlib.Core.Path.{_≡_};
-ghost use Rattle.mft_carver.specs.Filename.{replaces, keep};
+ghost use Rattle.mft_attributes.specs.Filename.{replaces, keep};
 use usn_record::fields::Reference;
 use walk::Place;
 

@@ -1,8 +1,8 @@
 -- The first name is kept; after that the namespaces decide.
-use Rattle.mft_carver.proofs.FilenameLaws.{kept-first, kept-new, kept-old}
+use Rattle.mft_attributes.proofs.FilenameLaws.{kept-first, kept-new, kept-old}
 use borrow.Author.Needs.{needs}
-use Rattle.mft_carver.proofs.filename.keep_better.Statement.{statement}
-use Rattle.mft_carver.proofs.filename.keep_better.Tie as tie
+use Rattle.mft_attributes.proofs.filename.keep_better.Statement.{statement}
+use Rattle.mft_attributes.proofs.filename.keep_better.Tie as tie
 
 enum-told : tie.Need-enum-told
 enum-told c = search needs
