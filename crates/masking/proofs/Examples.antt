@@ -24,7 +24,8 @@ use Rattle.usn_carver.specs.Events.{carved}
 use Rattle.usn_carver.specs.Carve.{judged, visitAs, carving, carvingList, visit as carverVisit}
 use Rattle.usn_carver.specs.Masking.{NoOverlap, IfAnswered}
 use Rattle.usn_carver.proofs.Examples.{E-carved}
-use Rattle.usn_reader.specs.Window.{windowSize, wrongEnd, wrongNumbers, refusalOf, wantedOf}
+use Rattle.window_numbers.specs.Numbers.{windowSize, wrongEnd, wrongNumbers, refusalOf}
+use Rattle.usn_reader.specs.Window.{wantedOf}
 use Rattle.usn_reader.specs.Rule.{namedFrom, byLength, turnOf, turns, searched}
 use Rattle.usn_reader.specs.Calls.{nextOf, giveRefusal, giveOf}
 use Rattle.usn_reader.specs.Run.{Call, next, give, giveOther, readingOf, givenBy, freshOver, shapes}
