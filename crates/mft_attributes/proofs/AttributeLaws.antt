@@ -76,7 +76,7 @@ module _ (e : List ℕ) (a : ℕ) (t : fileName ≡ leAt 4 e a) (b : a + 8 < len
     past-name i = content (given-past (length e) (a + n) (a + k) (contentAt e (a + k)) (omega (arith, eu)))
 
     module _ (i : 2 * u ≡ 0 → ⊥) (j : a + k + fixed + 2 * u ≤ a + n) (l : a + n ≤ length e)
-        {p : ℕ} (ep : p ≡ leAt 8 e (a + k)) {q : Reference} (eq : q ≡ referenceOf true (p + 0 * 2 ^ 64)) {s : ℕ} (es : s ≡ leAt 1 e (a + k + 65)) where
+        {p : ℕ} (ep : p ≡ leAt 8 e (a + k)) {q : Reference} (eq : q ≡ referenceOf true (p + 0 * 2 ^ 64)) {s : ℕ} (es : s ≡ contentAt e (a + k) .namespace) where
       some : 0 < u
       some = positive u i
         where

@@ -71,7 +71,8 @@ module _ (e d : List ℕ) (long : length d ≡ length e) where
         at = λ i l u. m i (omega arith) (apart-append (nameOf x) (placesOf nameOf (attributesIn k e (a + n))) i
             (below (c + fixed) (a + n) x i (given-lies (length e) (a + n) c (contentAt e c)) u) (clear k (a + n) i (omega arith)));
       } in
-      rw (read-agree 8 c q (omega arith) (omega arith), read-agree 1 (c + 64) q (omega arith) (omega arith), read-agree 1 (c + 65) q (omega arith) (omega arith))
+      let namespace : contentAt d c .namespace ≡ contentAt e c .namespace = read-agree 1 (c + 65) q (omega arith) (omega arith) in
+      rw (read-agree 8 c q (omega arith) (omega arith), read-agree 1 (c + 64) q (omega arith) (omega arith), namespace)
   content-same k a n c h false f m =
       let g : a + n < c + fixed = leb-false (c + fixed) (a + n) f in
       sym (given-past (length e) (a + n) c (contentAt d c) (omega arith)) ∙ given-past (length e) (a + n) c (contentAt e c) (omega arith)

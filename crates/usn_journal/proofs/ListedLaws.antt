@@ -20,8 +20,8 @@ use Rattle.usn_record.specs.Layout.{Layout, layoutOf, v2, v3}
 use Rattle.usn_record.specs.Record.{maxRecord, parsed, recordOf, listed}
 use Rattle.usn_record.specs.Names.{fixedOf}
 use Rattle.usn_record.proofs.RecordLaws.{Inside, v2-inside, v3-inside, part-accepted, listed-v2, listed-v3}
-use Rattle.usn_journal.specs.Scan.{Kind, end, word, usnRecord, rangeRecord, Event, recorded, ranged, visitAs, visit, events, recordPlaces, scanned}
-use Rattle.usn_journal.proofs.ScanLaws.{kindAt, Shaped, shape-at}
+use Rattle.usn_journal.specs.Scan.{Kind, end, word, usnRecord, rangeRecord, Event, recorded, ranged, visitAs, kindAt, visit, events, recordPlaces, scanned}
+use Rattle.usn_journal.proofs.ScanLaws.{Shaped, shape-at, OfRecord, all-records}
 
 -- a record of version 2 or 3 stands at p
 pub record Recorded (s : List ℕ) (p : Place) : Type 0 where
@@ -31,16 +31,6 @@ pub record Recorded (s : List ℕ) (p : Place) : Type 0 where
   pub most : p .length ≤ maxRecord
   pub fixed : fixedOf (leAt 2 s (p .offset + 4)) ≤ p .length
   pub version : (leAt 2 s (p .offset + 4) ≡ 2) ⊎ (leAt 2 s (p .offset + 4) ≡ 3)
-
--- what holds of an event if it is a record
-abbrev pub OfRecord : (Place → Type 0) → Event → Type 0
-OfRecord P (recorded p) = P p
-OfRecord P (ranged p) = Unit {0}
-
-pub all-records : (P : Place → Type 0) (es : List Event) → All (OfRecord P) es → All P (recordPlaces es)
-all-records P [] h = tt
-all-records P (recorded p ∷ es) h = (h .0, all-records P es (h .1))
-all-records P (ranged p ∷ es) h = all-records P es (h .1)
 
 pub all-map : {A : Type 0} (P Q : A → Type 0) → ((x : A) → P x → Q x) → (xs : List A) → All P xs → All Q xs
 all-map P Q f [] h = tt
