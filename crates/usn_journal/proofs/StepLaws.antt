@@ -73,7 +73,7 @@ module _ (s : List ℕ) (o n : ℕ) {v : ℕ} (f : v ≡ versionAt s o) where
   module _ (i : Lying s o n) {x : Visit Event} {y : Outcome UsnRecord} (w : x ≡ parsedVisit o n y) where
     taken : (l : Layout) → Inside l → l .fixed ≤ n → y ≡ parsed l (take (o + n - o) (drop o s)) → x ≡ visitAs o n usnRecord
     taken l j k q =
-        w ∙ ap (parsedVisit o n) (q ∙ ap (parsed l) (part-lent s o n) ∙ part-accepted l j s o (i .size) (i .small) (i .inside) k (i .most))
+        w ∙ ap (parsedVisit o n) (q ∙ ap (parsed l) (part-lent s o n) ∙ part-accepted l j s o (i .size) (i .inside) k (i .most))
 
     pub version-2 : v ≡ 2 → v2 .fixed ≤ n → y ≡ parsed v2 (take (o + n - o) (drop o s)) → x ≡ byVersion s o n
     unfolding kindByVersion

@@ -204,9 +204,9 @@ module _ (l : Layout) (k : Inside l) where
         let fld : leAt 4 (part s o n) 0 ≡ n = part-length-field in
         record { small = omega arith; whole = omega arith; least = omega arith; most = omega arith; held = λ _. omega arith }
 
-  pub part-accepted : (s : List ℕ) (o : ℕ) {n : ℕ} → n ≡ leAt 4 s o → length s ≤ domain → o + n ≤ length s → l .fixed ≤ n → n ≤ maxRecord
+  pub part-accepted : (s : List ℕ) (o : ℕ) {n : ℕ} → n ≡ leAt 4 s o → o + n ≤ length s → l .fixed ≤ n → n ≤ maxRecord
       → parsed l (part s o n) ≡ answered (recordOf l (part s o n))
-  part-accepted s o e a b f h = sym (accepted l _ (part-accepts s o e b f h))
+  part-accepted s o e b f h = sym (accepted l _ (part-accepts s o e b f h))
 
 -- where a record's name lies in its slice
 pub name-lies : (l : Layout) (s : List ℕ) → NameAt (nameEnd l s) (leAt 2 s (l .nameOffset)) (recordOf l s .filename)
