@@ -1,7 +1,7 @@
 -- Each refusal by the tests that led to it.
 use borrow.Author.Needs.{needs}
 use native.Mathlib.Omega.{arith}
-use mathlib.Core.Path.{_≡_, sym, _∙_}
+use mathlib.Core.Path.{sym, _∙_}
 use Rattle.window_numbers.proofs.NumberLaws.{refused-total, refused-buffer, refused-above, refused-end, refused-start, refused-position, refused-before, refused-after, refused-held, not-refused}
 use Rattle.window_numbers.proofs.refusal.Statement.{statement}
 use Rattle.window_numbers.proofs.refusal.Tie as tie
