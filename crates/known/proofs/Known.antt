@@ -18,9 +18,9 @@ use Rattle.usn_journal.specs.Outcome.{scan}
 use Rattle.usn_carver.specs.Carve.{judged, visitAs, carving}
 use Rattle.usn_carver.specs.Carve.{visit as carverVisit}
 use Rattle.usn_reader.specs.Journal.{stepAt, steps, toCome}
-use Rattle.mft_carver.specs.Filename.{replaces, keep}
-use Rattle.mft_carver.specs.Attributes.{given, attributeAt, filenameIn}
-use Rattle.mft_carver.specs.Attributes.{visit as attributeVisit}
+use Rattle.mft_attributes.specs.Filename.{replaces, keep}
+use Rattle.mft_attributes.specs.Attributes.{given, attributeAt, filenameIn}
+use Rattle.mft_attributes.specs.Attributes.{visit as attributeVisit}
 use Rattle.mft_carver.specs.Entry.{hasSignature}
 use Rattle.mft_carver.specs.Entry.{judged as entryJudged}
 use Rattle.mft_carver.specs.Carve.{visit as imageVisit}

@@ -24,7 +24,8 @@ use Rattle.usn_carver.specs.Events.{carved}
 use Rattle.usn_carver.specs.Carve.{judged, visitAs, carving, carvingList, visit as carverVisit}
 use Rattle.usn_carver.specs.Masking.{NoOverlap, IfAnswered}
 use Rattle.usn_carver.proofs.Examples.{E-carved}
-use Rattle.usn_reader.specs.Window.{windowSize, wrongEnd, wrongNumbers, refusalOf, wantedOf}
+use Rattle.window_numbers.specs.Numbers.{windowSize, wrongEnd, wrongNumbers, refusalOf}
+use Rattle.usn_reader.specs.Window.{wantedOf}
 use Rattle.usn_reader.specs.Rule.{namedFrom, byLength, turnOf, turns, searched}
 use Rattle.usn_reader.specs.Calls.{nextOf, giveRefusal, giveOf}
 use Rattle.usn_reader.specs.Run.{Call, next, give, giveOther, readingOf, givenBy, freshOver, shapes}
@@ -33,8 +34,8 @@ use Rattle.usn_reader.specs.declared.Reading.{Reading}
 use Rattle.usn_reader.proofs.RunLaws.{journalReading, journalReadings, run-journal}
 use Rattle.usn_reader.proofs.CountLaws.{delivery-carries}
 use Rattle.usn_reader.proofs.TwoRuns.{fresh-filled}
-use Rattle.mft_carver.specs.Filename.{replaces, keep}
-use Rattle.mft_carver.specs.Attributes.{given, attributeAt, filenameIn, visit as attributeVisit}
+use Rattle.mft_attributes.specs.Filename.{replaces, keep}
+use Rattle.mft_attributes.specs.Attributes.{given, attributeAt, filenameIn, visit as attributeVisit}
 use Rattle.mft_carver.specs.Entry.{hasSignature, judged as entryJudged}
 use Rattle.mft_carver.specs.Carve.{visit as imageVisit, carving as imageCarving, carvingList as imageList}
 use Rattle.mft_carver.specs.Settings.{standard as imageStandard}

@@ -33,8 +33,8 @@ use Rattle.walk.proofs.MaskedLaws.{masked-middle}
 use Rattle.usn_record.specs.Names.{nameAt}
 use Rattle.usn_journal.specs.Scan.{kindByVersion, kindOf, visit, scanned}
 use Rattle.usn_journal.specs.Outcome.{scan}
-use Rattle.mft_carver.specs.Filename.{replaces, keep}
-use Rattle.mft_carver.specs.Attributes.{given, attributeAt, filenameIn, visit as attributeVisit}
+use Rattle.mft_attributes.specs.Filename.{replaces, keep}
+use Rattle.mft_attributes.specs.Attributes.{given, attributeAt, filenameIn, visit as attributeVisit}
 use Rattle.mft_carver.specs.Entry.{hasSignature, judged as entryJudged}
 use Rattle.mft_carver.specs.Carve.{visit as imageVisit, carving as imageCarving}
 use Rattle.mft_carver.specs.Sample.{header as entryHeader, beforeName, last}

@@ -8,7 +8,8 @@ use Rattle.usn_record.specs.Fields.{filenameOf}
 use Rattle.usn_record.specs.Names.{nameAt}
 use Rattle.usn_record.specs.Record.{recordOf, parsed, listed}
 use Rattle.usn_record.specs.Sample.{sampleRecord}
-use Rattle.usn_reader.specs.Window.{windowSize, wrongEnd, wrongNumbers, refusalOf, wantedOf}
+use Rattle.window_numbers.specs.Numbers.{windowSize, wrongEnd, wrongNumbers, refusalOf}
+use Rattle.usn_reader.specs.Window.{wantedOf}
 use Rattle.usn_reader.specs.Rule.{namedFrom, byLength, turnOf, turns, searched}
 use Rattle.usn_reader.specs.Calls.{nextOf, giveRefusal, giveOf}
 use Rattle.usn_reader.specs.Run.{Call, next, give, readingOf, bufferOf, givenBy, readings, freshOver, shapes}

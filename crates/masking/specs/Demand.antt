@@ -18,7 +18,7 @@ use Rattle.usn_journal.specs.Outcome.{scan, scanAnswer, scanList, listing}
 use Rattle.usn_carver.specs.Settings.{standard}
 use Rattle.usn_carver.specs.Carve.{events, carving, carvingList}
 use Rattle.usn_carver.specs.Masking.{NoOverlap, IfAnswered, carvedRecords}
-use Rattle.usn_reader.specs.Window.{windowSize}
+use Rattle.window_numbers.specs.Numbers.{windowSize}
 use Rattle.usn_reader.specs.Run.{readings, givenBy, freshOver, shapes, Call as WindowCall}
 use Rattle.usn_reader.specs.Owed.{Delivery}
 use Rattle.mft_carver.specs.Settings.{standard as imageStandard}

@@ -11,13 +11,13 @@ use Rattle.walk.specs.Places.{placeFrom}
 use Rattle.walk.specs.declared.Place.{Place}
 use Rattle.usn_record.specs.Bytes.{leAt}
 use Rattle.mft_carver.specs.Settings.{Settings}
-use Rattle.mft_carver.specs.Attributes.{fixed, filenameIn}
+use Rattle.mft_attributes.specs.Attributes.{fixed, filenameIn}
 use Rattle.mft_carver.specs.Entry.{hasSignature, headerOf, entryOf, Event, rejected, carved, byName, judged}
 use Rattle.mft_carver.specs.declared.CarvedMftEntry.{CarvedMftEntry}
-use Rattle.mft_carver.specs.declared.filename.Filename.{Filename}
-use Rattle.mft_carver.specs.declared.filename.Kept.{Kept}
-use Rattle.mft_carver.specs.declared.filename.Kept.the-variants.{Nothing, Name}
-use Rattle.mft_carver.proofs.LieLaws.{Lies, found-lies}
+use Rattle.mft_attributes.specs.declared.filename.Filename.{Filename}
+use Rattle.mft_attributes.specs.declared.filename.Kept.{Kept}
+use Rattle.mft_attributes.specs.declared.filename.Kept.the-variants.{Nothing, Name}
+use Rattle.mft_attributes.proofs.LieLaws.{Lies, found-lies}
 
 and-true : (b : Bool) → b ≡ (b && true)
 and-true true = refl

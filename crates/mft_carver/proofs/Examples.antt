@@ -12,9 +12,9 @@ use Rattle.walk.proofs.MaskedLaws.{masked-middle}
 use Rattle.usn_record.specs.Bytes.{le, leAt, leBytes}
 use Rattle.usn_record.specs.Fields.{referenceOf}
 use Rattle.mft_carver.specs.Settings.{standard}
-use Rattle.mft_carver.specs.Filename.{replaces, keep}
-use Rattle.mft_carver.specs.Attributes.{fileName, given, attributeAt, filenameIn}
-use Rattle.mft_carver.specs.Attributes.{visit as attributeVisit}
+use Rattle.mft_attributes.specs.Filename.{replaces, keep}
+use Rattle.mft_attributes.specs.Attributes.{fileName, given, attributeAt, filenameIn}
+use Rattle.mft_attributes.specs.Attributes.{visit as attributeVisit}
 use Rattle.mft_carver.specs.Entry.{hasSignature, judged}
 use Rattle.mft_carver.specs.Carve.{visit, statsOf, statsIn, carving}
 use Rattle.mft_carver.specs.Masking.{carvedNames}

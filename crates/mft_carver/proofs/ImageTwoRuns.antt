@@ -21,19 +21,19 @@ use Rattle.walk.proofs.WalkLaws.{Forward}
 use Rattle.usn_record.specs.Bytes.{leAt}
 use Rattle.usn_record.proofs.ByteLaws.{read-agree}
 use Rattle.mft_carver.specs.Settings.{Settings}
-use Rattle.mft_carver.specs.Attributes.{fixed, filenameIn}
+use Rattle.mft_attributes.specs.Attributes.{fixed, filenameIn}
 use Rattle.mft_carver.specs.Entry.{hasSignature, Header, headerOf, badHeader, entryOf, Event, rejected, carved, byName, judged}
 use Rattle.mft_carver.specs.Carve.{entryBytes, eventsAt, visit, events, entries, entriesIn, carving, carvingList}
 use Rattle.mft_carver.specs.Masking.{carvedEntries, carvedNames}
 use Rattle.mft_carver.specs.declared.CarvedMftEntry.{CarvedMftEntry}
 use Rattle.mft_carver.specs.declared.MftCarvingStats.{MftCarvingStats}
-use Rattle.mft_carver.specs.declared.filename.Filename.{Filename}
-use Rattle.mft_carver.specs.declared.filename.Kept.{Kept}
-use Rattle.mft_carver.specs.declared.filename.Kept.the-variants.{Nothing, Name}
+use Rattle.mft_attributes.specs.declared.filename.Filename.{Filename}
+use Rattle.mft_attributes.specs.declared.filename.Kept.{Kept}
+use Rattle.mft_attributes.specs.declared.filename.Kept.the-variants.{Nothing, Name}
 use Rattle.mft_carver.proofs.CallLaws.{outcome-agrees}
 use Rattle.mft_carver.proofs.RunLaws.{visit-forward}
-use Rattle.mft_carver.proofs.LieLaws.{Lies, KeptIs, filename-lies}
-use Rattle.mft_carver.proofs.TwoRunLaws.{keptName, filename-two-runs}
+use Rattle.mft_attributes.proofs.LieLaws.{Lies, KeptIs, filename-lies}
+use Rattle.mft_attributes.proofs.TwoRunLaws.{keptName, filename-two-runs}
 
 -- the name of a carved entry
 abbrev pub nameOf : Event → List Place

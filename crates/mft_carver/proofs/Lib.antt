@@ -1,10 +1,6 @@
-pub mod FilenameLaws
-pub mod AttributeLaws
-pub mod LieLaws
 pub mod EntryLaws
 pub mod RunLaws
 pub mod FillLaws
 pub mod CallLaws
-pub mod TwoRunLaws
 pub mod ImageTwoRuns
 pub mod Examples

@@ -6,11 +6,11 @@ use lib.Dec.{ltb, eqb}
 use Rattle.walk.specs.Places.{placeFrom}
 use Rattle.usn_record.specs.Bytes.{leAt}
 use Rattle.mft_carver.specs.Settings.{Settings}
-use Rattle.mft_carver.specs.Attributes.{filenameIn}
+use Rattle.mft_attributes.specs.Attributes.{filenameIn}
 use Rattle.mft_carver.specs.declared.CarvedMftEntry.{CarvedMftEntry}
-use Rattle.mft_carver.specs.declared.filename.Filename.{Filename}
-use Rattle.mft_carver.specs.declared.filename.Kept.{Kept}
-use Rattle.mft_carver.specs.declared.filename.Kept.the-variants.{Nothing, Name}
+use Rattle.mft_attributes.specs.declared.filename.Filename.{Filename}
+use Rattle.mft_attributes.specs.declared.filename.Kept.{Kept}
+use Rattle.mft_attributes.specs.declared.filename.Kept.the-variants.{Nothing, Name}
 
 -- the bytes FILE, with which an entry begins
 abbrev pub signature : List ℕ

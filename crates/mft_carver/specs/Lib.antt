@@ -1,6 +1,4 @@
 pub mod Settings
-pub mod Filename
-pub mod Attributes
 pub mod Entry
 pub mod Carve
 pub mod Promise

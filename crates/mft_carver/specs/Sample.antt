@@ -4,7 +4,7 @@ use mathlib.Core.List.{List, [], _∷_, _++_}
 use lib.ListN.{length, replicate}
 use Rattle.usn_record.specs.Bytes.{leBytes}
 use Rattle.usn_record.specs.Sample.{reference}
-use Rattle.mft_carver.specs.Attributes.{fileName, endMarker}
+use Rattle.mft_attributes.specs.Attributes.{fileName, endMarker}
 use Rattle.mft_carver.specs.Entry.{signature}
 
 -- the first 44 bytes of an entry: a directory in use, with this sequence and its first attribute at first

@@ -2,20 +2,11 @@
 use Prim.Native.Nat.{ℕ}
 use mathlib.Core.List.{List, [], _∷_}
 use Rattle.walk.specs.Walk.{Visit, stop, go}
-use Rattle.mft_carver.specs.Filename.{Attribute, other, named}
 use Rattle.mft_carver.specs.Entry.{Event, rejected, carved}
-use Rattle.mft_carver.specs.declared.attributes.AttributeStep.{AttributeStep}
-use Rattle.mft_carver.specs.declared.attributes.AttributeStep.the-variants.{End, Other, Named}
 use Rattle.mft_carver.specs.declared.entry.Candidate.{Candidate}
 use Rattle.mft_carver.specs.declared.entry.Candidate.the-variants.{Rejected as RejectedCandidate, Carved as CarvedCandidate}
 use Rattle.mft_carver.specs.declared.step.CarveStep.{CarveStep}
 use Rattle.mft_carver.specs.declared.step.CarveStep.the-variants.{Stop, Move, Rejected, Carved}
-
--- a step to the next attribute as a visit
-abbrev pub attributeOf : AttributeStep → Visit Attribute
-attributeOf End = stop
-attributeOf (Other p) = go (other ∷ []) p
-attributeOf (Named f p) = go (named f ∷ []) p
 
 -- what became of the candidate at o
 abbrev pub eventOf : ℕ → Candidate → Event

@@ -2,9 +2,7 @@
 // its name as a place in the image.
 //
 // Every function here is proved. The call has no `requires`: any image and any list get an answer.
-mod attributes;
 mod entry;
-mod filename;
 mod fill;
 mod step;
 

@@ -2,7 +2,7 @@
 use Prim.Native.Nat.{ℕ, _+_}
 use mathlib.Core.Path.{_≡_, refl, sym, ap, _∙_}
 use mathlib.Core.List.{List, [], _∷_, _++_, List·Memᴰ·cases-cons, List·Memᴰ·not-nil}
-use mathlib.Core.Logic.{⊎-elim}
+use mathlib.Core.Logic.{⊎-elim, inl}
 use native.Mathlib.Omega.{arith}
 use lib.ListN.{length, getD}
 use Rattle.walk.specs.Masked.{Masked, placesOf}
@@ -10,10 +10,10 @@ use Rattle.walk.specs.Outcome.{answered}
 use Rattle.walk.specs.Walk.{walk, from}
 use Rattle.walk.proofs.MaskedLaws.{masked-middle}
 use Rattle.usn_record.specs.Bytes.{le, leAt, leBytes}
-use Rattle.usn_record.specs.Fields.{filenameOf}
 use Rattle.usn_record.specs.Names.{nameAt}
-use Rattle.usn_record.specs.Record.{recordOf, parsed, listed}
 use Rattle.usn_record.specs.Sample.{header, sampleFixed, createdFixed, sampleRecord, recordE}
+use Rattle.usn_record.proofs.ListedLaws.{whole-name}
+use Rattle.usn_record.proofs.SampleLaws.{sample-named}
 use Rattle.usn_carver.specs.Settings.{standard}
 use Rattle.usn_carver.specs.Events.{structure, rejected, carved}
 use Rattle.usn_carver.specs.Carve.{judged, visitAs, visit, events, carving}
@@ -29,8 +29,7 @@ unfolding from walk visit visitAs judged leAt le
 E-carved = refl
 
 pub E-name : nameAt recordE 0 ≡ record { offset = 60; length = 4 } ∷ []
-unfolding nameAt listed parsed recordOf filenameOf leAt le
-E-name = refl
+E-name = sample-named 0x61 0x62
 
 E-outcome : carving standard recordE 2 ≡ answered (record { «bytes_scanned» = 64; «candidates_examined» = 1; «records_carved» = 1; «rejected_timestamp» = 0; «rejected_structure» = 0 })
 unfolding carving from walk visit visitAs judged leAt le
@@ -71,8 +70,10 @@ unfolding from walk visit visitAs judged leAt le
 overlap-second = refl
 
 overlap-name : nameAt (overlap abcd) 8 ≡ record { offset = 68; length = 8 } ∷ []
-unfolding nameAt listed parsed recordOf filenameOf leAt le
-overlap-name = refl
+unfolding leAt le
+overlap-name =
+    whole-name (record { size = refl; inside = omega arith; fixed = omega arith; most = omega arith; version = inl refl }) {k = 60} {m = 8} refl refl
+    (omega arith) (omega arith) (omega arith)
 
 -- they differ in the carved name alone, and their events differ
 pub overlap-masked : Masked (overlap abcd) (overlap ab2L) (placesOf (nameOf (overlap abcd)) (events standard (overlap abcd)))

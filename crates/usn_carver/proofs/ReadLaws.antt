@@ -47,11 +47,9 @@ module _ (st : Settings) where
       (cond-two (Reads s t o) (isCandidate st l (length s) o (leAt 4 s o)) {y = go [] (o + 8)} {y′ = go [] (o + 8)}
       (λ _ a.
       let b : Agree s t o (o + l .fixed) = agree-in o (o + l .fixed) a (omega arith) (omega (arith, judged-reach l o (headerAt l s o))) in
-      rw (
-        read-agree 2 (o + l .nameOffset) b (omega arith) (omega (arith, k .nameOffset)),
-        read-agree 2 (o + l .nameLength) b (omega arith) (omega (arith, k .nameLength)),
-        read-agree 8 (o + l .time) b (omega arith) (omega (arith, k .time)),
-      ))
+      let offset : headerAt l t o .nameOffset ≡ headerAt l s o .nameOffset = read-agree 2 (o + l .nameOffset) b (omega arith) (omega (arith, k .nameOffset)) in
+      let units : headerAt l t o .nameLength ≡ headerAt l s o .nameLength = read-agree 2 (o + l .nameLength) b (omega arith) (omega (arith, k .nameLength)) in
+      rw (offset, units, read-agree 8 (o + l .time) b (omega arith) (omega (arith, k .time))))
       (λ _ _. refl))
 
   reach-low : {s : List ℕ} {o : ℕ} {x : Visit Event} → Shape st s o x → 8 ≤ reach x

@@ -36,7 +36,7 @@ module _ (st : Settings) (l : Layout) (s : List ℕ) (o : ℕ) {n : ℕ} (e : n 
 
   -- past those the tests of the name and of the time decide
   module _ (a : l .fixed ≤ n) (b : n ≤ st .largest) (d : o + n ≤ length s)
-      {offset size : ℕ} (f : offset ≡ leAt 2 s (o + l .nameOffset)) (g : size ≡ leAt 2 s (o + l .nameLength))
+      {offset size : ℕ} (f : offset ≡ headerAt l s o .nameOffset) (g : size ≡ headerAt l s o .nameLength)
       {x : Bool} (h : x ≡ badName (l .fixed) n offset size) where
     pub rejected-structure : x ≡ true → go (rejected structure o (l .major) ∷ []) (o + 8) ≡ visitAs st l s o
     unfolding visitAs judged

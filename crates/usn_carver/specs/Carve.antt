@@ -36,7 +36,7 @@ isCandidate st l end o n = leb (l .fixed) n && leb n (st .largest) && leb (o + n
 
 -- the name does not begin after the fixed part, or passes the record, or its length is 0 or odd
 abbrev pub badName : ℕ → ℕ → ℕ → ℕ → Bool
-badName fixed size offset length = not (eqb offset fixed) || ltb size (offset + length) || eqb length 0 || not (eqb (length % 2) 0)
+badName fixed size offset bytes = not (eqb offset fixed) || ltb size (offset + bytes) || eqb bytes 0 || not (eqb (bytes % 2) 0)
 
 -- the time lies outside the limits
 abbrev pub badTime : ℤ → ℤ → ℤ → Bool

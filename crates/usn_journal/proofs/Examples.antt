@@ -10,10 +10,10 @@ use Rattle.walk.specs.Outcome.{refused, answered}
 use Rattle.walk.specs.Walk.{walk, from}
 use Rattle.walk.proofs.MaskedLaws.{masked-middle}
 use Rattle.usn_record.specs.Bytes.{le, leAt, leBytes}
-use Rattle.usn_record.specs.Fields.{filenameOf}
-use Rattle.usn_record.specs.Record.{recordOf, parsed, listed}
+use Rattle.usn_record.specs.Record.{listed}
 use Rattle.usn_record.specs.Names.{nameAt}
 use Rattle.usn_record.specs.Sample.{header, createdFixed, sampleRecord, recordE}
+use Rattle.usn_record.proofs.SampleLaws.{sample-named}
 use Rattle.usn_journal.specs.Scan.{kindByVersion, kindOf, visit, scanned}
 use Rattle.usn_journal.specs.Outcome.{scan, scanAnswer, scanList}
 use Rattle.usn_journal.proofs.TwoRunLaws.{scan-two-runs}
@@ -34,9 +34,12 @@ unfolding scan scanned from walk visit kindOf kindByVersion leAt le
 fills = (refl, refl)
 
 -- the record with another first unit in its name is masked, is another list of bytes, and has the same outcome
+scanned-E : scanned recordE ≡ record { offset = 0; length = 64 } ∷ []
+unfolding scanned from walk visit kindOf kindByVersion leAt le
+scanned-E = refl
+
 names-E : placesOf (λ p. nameAt recordE (p .offset)) (scanned recordE) ≡ record { offset = 60; length = 4 } ∷ []
-unfolding nameAt listed parsed recordOf filenameOf scanned from walk visit kindOf kindByVersion leAt le
-names-E = refl
+names-E = rw (scanned-E, sample-named 0x61 0x62) refl
 
 pub E-masked : Masked recordE (sampleRecord 0x63 0x62) (placesOf (λ p. nameAt recordE (p .offset)) (scanned recordE))
 E-masked =

@@ -8,6 +8,7 @@ use native.Mathlib.Omega.{arith}
 use lib.ListN.{length, length-append}
 use lib.Dec.{ltb, eqb}
 use borrow.Author.Tests.{ltb-false, eqb-true}
+use Rattle.walk.specs.Lists.{All}
 use Rattle.walk.specs.Walk.{Visit, stop, go, after, walk, from}
 use Rattle.walk.specs.declared.Place.{Place}
 use Rattle.walk.proofs.ChoiceLaws.{cond-cases, or-left, or-right}
@@ -16,7 +17,7 @@ use Rattle.usn_record.specs.Bytes.{leAt}
 use Rattle.usn_record.specs.Layout.{v2, v3}
 use Rattle.usn_record.specs.Record.{maxRecord}
 use Rattle.usn_record.specs.Names.{fixedOf}
-use Rattle.usn_journal.specs.Scan.{Kind, end, word, usnRecord, rangeRecord, minRecord, kindByVersion, kindOf, Event, recorded, ranged, visitAs, visit, recordPlaces, scanned}
+use Rattle.usn_journal.specs.Scan.{Kind, end, word, usnRecord, rangeRecord, minRecord, kindByVersion, kindOf, Event, recorded, ranged, visitAs, versionAt, kindAt, visit, recordPlaces, scanned}
 use Rattle.usn_journal.specs.Step.{visitOf}
 use Rattle.usn_journal.specs.declared.step.ScanStep.{ScanStep}
 
@@ -59,15 +60,22 @@ kind-shape left n v =
     (λ f. (lies, record { fixed = rw (eqb-true v 3 e) (ltb-false _ _ f); least = omega (arith, ltb-false n 76 f); version = inr (eqb-true v 3 e) }))) λ _.
     cond-cases P (eqb v 4) (λ e. (lies, eqb-true v 4 e)) (λ _. ltb-false _ _ a)
 
--- what stands at o of an extract, and what is known of it
-abbrev pub kindAt : List ℕ → ℕ → Kind
-kindAt s o = kindOf (length s - o) (leAt 4 s o) (leAt 2 s (o + 4))
-
+-- what is known of what stands at o of an extract
 abbrev pub Shaped : List ℕ → ℕ → Kind → Type 0
-Shaped s o = KindShape (length s - o) (leAt 4 s o) (leAt 2 s (o + 4))
+Shaped s o = KindShape (length s - o) (leAt 4 s o) (versionAt s o)
 
 pub shape-at : (s : List ℕ) (o : ℕ) → Shaped s o (kindAt s o)
 shape-at s o = kind-shape _ _ _
+
+-- what holds of an event if it is a record
+abbrev pub OfRecord : (Place → Type 0) → Event → Type 0
+OfRecord P (recorded p) = P p
+OfRecord P (ranged p) = Unit {0}
+
+pub all-records : (P : Place → Type 0) (es : List Event) → All (OfRecord P) es → All P (recordPlaces es)
+all-records P [] h = tt
+all-records P (recorded p ∷ es) h = (h .0, all-records P es (h .1))
+all-records P (ranged p ∷ es) h = all-records P es (h .1)
 
 pub records-append : (es fs : List Event) → recordPlaces (es ++ fs) ≡ recordPlaces es ++ recordPlaces fs
 records-append [] fs = refl

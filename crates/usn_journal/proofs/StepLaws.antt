@@ -17,12 +17,12 @@ use Rattle.usn_record.specs.Layout.{Layout, v2, v3}
 use Rattle.usn_record.specs.Record.{maxRecord, parsed}
 use Rattle.usn_record.specs.declared.UsnRecord.{UsnRecord}
 use Rattle.usn_record.proofs.RecordLaws.{Inside, v2-inside, v3-inside, part-accepted}
-use Rattle.usn_journal.specs.Scan.{minRecord, usnRecord, kindByVersion, kindOf, Event, ranged, visitAs, visit}
+use Rattle.usn_journal.specs.Scan.{minRecord, usnRecord, kindByVersion, kindOf, Event, ranged, visitAs, versionAt, visit}
 use Rattle.usn_journal.specs.Step.{Lying, parsedVisit}
 
 -- the visit of n bytes that lie inside, by the version field
 abbrev pub byVersion : List ℕ → ℕ → ℕ → Visit Event
-byVersion s o n = visitAs o n (kindByVersion n (leAt 2 s (o + 4)))
+byVersion s o n = visitAs o n (kindByVersion n (versionAt s o))
 
 -- by the bytes left and the length field n
 module _ (s : List ℕ) (o : ℕ) where
@@ -52,7 +52,7 @@ module _ (s : List ℕ) (o : ℕ) where
       visit-inside h w = w ∙ simp (header, sym e, le-ltb n minRecord b, le-ltb maxRecord n d, le-ltb (length s - o) n (omega arith))
 
 -- by the version field v
-module _ (s : List ℕ) (o n : ℕ) {v : ℕ} (f : v ≡ leAt 2 s (o + 4)) where
+module _ (s : List ℕ) (o n : ℕ) {v : ℕ} (f : v ≡ versionAt s o) where
   pub version-2-short : v ≡ 2 → n < v2 .fixed → go [] (o + 8) ≡ byVersion s o n
   unfolding kindByVersion
   version-2-short h k = simp (sym f, h, lt-ltb n (v2 .fixed) k)
@@ -73,7 +73,7 @@ module _ (s : List ℕ) (o n : ℕ) {v : ℕ} (f : v ≡ leAt 2 s (o + 4)) where
   module _ (i : Lying s o n) {x : Visit Event} {y : Outcome UsnRecord} (w : x ≡ parsedVisit o n y) where
     taken : (l : Layout) → Inside l → l .fixed ≤ n → y ≡ parsed l (take (o + n - o) (drop o s)) → x ≡ visitAs o n usnRecord
     taken l j k q =
-        w ∙ ap (parsedVisit o n) (q ∙ ap (parsed l) (part-lent s o n) ∙ part-accepted l j s o (i .size) (i .small) (i .inside) k (i .most))
+        w ∙ ap (parsedVisit o n) (q ∙ ap (parsed l) (part-lent s o n) ∙ part-accepted l j s o (i .size) (i .inside) k (i .most))
 
     pub version-2 : v ≡ 2 → v2 .fixed ≤ n → y ≡ parsed v2 (take (o + n - o) (drop o s)) → x ≡ byVersion s o n
     unfolding kindByVersion

@@ -18,9 +18,8 @@ use Rattle.usn_record.specs.Record.{listed}
 use Rattle.usn_record.specs.Names.{fixedOf, nameAt}
 use Rattle.usn_record.proofs.ByteLaws.{read-agree}
 use Rattle.usn_record.proofs.NameLaws.{fixed-low, listed-agrees, name-after-fixed, name-before-end}
-use Rattle.usn_journal.specs.Scan.{Kind, end, word, usnRecord, rangeRecord, Event, recorded, ranged, visitAs, visit, events, recordPlaces, scanned}
-use Rattle.usn_journal.proofs.ScanLaws.{kindAt, Shaped, shape-at, visit-forward}
-use Rattle.usn_journal.proofs.ListedLaws.{OfRecord, all-records}
+use Rattle.usn_journal.specs.Scan.{Kind, end, word, usnRecord, rangeRecord, Event, recorded, ranged, visitAs, versionAt, kindAt, visit, events, recordPlaces, scanned}
+use Rattle.usn_journal.proofs.ScanLaws.{Shaped, shape-at, OfRecord, all-records, visit-forward}
 
 -- the name of what is met, past its fixed part: version 4 records have none
 abbrev pub eventNames : List ℕ → Event → List Place
@@ -38,7 +37,7 @@ pub visit-agrees : {s t : List ℕ} (o : ℕ) → Agree s t o (o + 8) → visit 
 unfolding visit
 visit-agrees {s} {t} o a =
     let x : leAt 4 t o ≡ leAt 4 s o = read-agree 4 o a (omega arith) (omega arith) in
-    let y : leAt 2 t (o + 4) ≡ leAt 2 s (o + 4) = read-agree 2 (o + 4) a (omega arith) (omega arith) in
+    let y : versionAt t o ≡ versionAt s o = read-agree 2 (o + 4) a (omega arith) (omega arith) in
     rw (a .long, x, y)
 
 -- how many bytes from an offset on no name lies in, where the version field is v: a record's fixed part, else the least one
@@ -56,7 +55,7 @@ reach-low rangeRecord v = omega arith
 
 module _ (s : List ℕ) where
   -- the names that a walk meets lie past the reach of its first visit
-  after-low : (o i : ℕ) (f : ℕ → List Event) (k : Kind) → Shaped s o k → i < o + reach k (leAt 2 s (o + 4))
+  after-low : (o i : ℕ) (f : ℕ → List Event) (k : Kind) → Shaped s o k → i < o + reach k (versionAt s o)
       → ((p : ℕ) → i < p + 60 → Apart (placesOf (eventNames s) (f p)) i) → Apart (placesOf (eventNames s) (after (visitAs o (leAt 4 s o) k) f)) i
   after-low o i f end w h later = tt
   after-low o i f word w h later = later (o + 8) (omega arith)
@@ -67,9 +66,9 @@ module _ (s : List ℕ) where
   unfolding walk visit
   walk-low zero o i h = tt
   walk-low (suc k) o i h =
-      after-low o i (walk (visit s) k) (kindAt s o) (shape-at s o) (omega (arith, reach-low (kindAt s o) (leAt 2 s (o + 4)))) (λ p. walk-low k p i)
+      after-low o i (walk (visit s) k) (kindAt s o) (shape-at s o) (omega (arith, reach-low (kindAt s o) (versionAt s o))) (λ p. walk-low k p i)
 
-  first-low : (k o i : ℕ) → i < o + reach (kindAt s o) (leAt 2 s (o + 4)) → Apart (placesOf (eventNames s) (walk (visit s) (suc k) o)) i
+  first-low : (k o i : ℕ) → i < o + reach (kindAt s o) (versionAt s o) → Apart (placesOf (eventNames s) (walk (visit s) (suc k) o)) i
   unfolding walk visit
   first-low k o i h = after-low o i (walk (visit s) k) (kindAt s o) (shape-at s o) h (λ p. walk-low k p i)
 
@@ -92,7 +91,7 @@ abbrev pub Alike : List ℕ → List ℕ → Place → Type 0
 Alike s t p = listed t (p .offset) ≡ listed s (p .offset)
 
 module _ (s t : List ℕ) where
-  kind-alike : (o : ℕ) (k : Kind) → Agree s t o (o + reach k (leAt 2 s (o + 4))) → Finds (OfRecord (Alike s t)) (visitAs o (leAt 4 s o) k)
+  kind-alike : (o : ℕ) (k : Kind) → Agree s t o (o + reach k (versionAt s o)) → Finds (OfRecord (Alike s t)) (visitAs o (leAt 4 s o) k)
   kind-alike o end a = tt
   kind-alike o word a = tt
   kind-alike o usnRecord a = (listed-agrees o a, tt)
@@ -102,8 +101,8 @@ module _ (s t : List ℕ) where
       → (visit t o ≡ visit s o) × Finds (OfRecord (Alike s t)) (visit s o)
   unfolding visit
   visit-reads long k o u m =
-      let a : Agree s t o (o + reach (kindAt s o) (leAt 2 s (o + 4))) = record { long = long; at = λ i l h. m i l (first-low s k o i h) } in
-      (visit-agrees o (agree-in o (o + 8) a (omega arith) (omega (arith, reach-low (kindAt s o) (leAt 2 s (o + 4))))), kind-alike o (kindAt s o) a)
+      let a : Agree s t o (o + reach (kindAt s o) (versionAt s o)) = record { long = long; at = λ i l h. m i l (first-low s k o i h) } in
+      (visit-agrees o (agree-in o (o + 8) a (omega arith) (omega (arith, reach-low (kindAt s o) (versionAt s o)))), kind-alike o (kindAt s o) a)
 
   -- all that is met is the same where the names of what is met are masked, and so is each record
   pub events-two-runs : Masked s t (placesOf (eventNames s) (events s)) → (events t ≡ events s) × All (OfRecord (Alike s t)) (events s)

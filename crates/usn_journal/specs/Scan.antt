@@ -52,9 +52,16 @@ visitAs o n word = go [] (o + 8)
 visitAs o n usnRecord = go (recorded (record { offset = o; length = n }) ∷ []) (o + round8 n)
 visitAs o n rangeRecord = go (ranged (record { offset = o; length = n }) ∷ []) (o + round8 n)
 
--- the visit at o of an extract s: its length field is the 4 bytes there, its version field the 2 bytes after them
+-- what stands at o of an extract s: its length field is the 4 bytes there, its version field the 2 bytes after them
+abbrev pub versionAt : List ℕ → ℕ → ℕ
+versionAt s o = leAt 2 s (o + 4)
+
+abbrev pub kindAt : List ℕ → ℕ → Kind
+kindAt s o = kindOf (length s - o) (leAt 4 s o) (versionAt s o)
+
+-- the visit there
 unfoldable pub visit : List ℕ → ℕ → Visit Event
-visit s o = let n = leAt 4 s o in visitAs o n (kindOf (length s - o) n (leAt 2 s (o + 4)))
+visit s o = visitAs o (leAt 4 s o) (kindAt s o)
 
 -- all that the scan of s meets from o on, and from the start
 abbrev pub eventsFrom : List ℕ → ℕ → List Event

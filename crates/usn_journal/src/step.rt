@@ -4,9 +4,8 @@ ghost use Prim.Native.Nat.{_+_, _≤_};
 ghost use lib.ListN.{length};
 ghost use Rattle.walk.specs.Places.{round8};
 ghost use Rattle.walk.specs.Refusals.{domain};
-ghost use Rattle.usn_record.specs.Bytes.{leAt};
 ghost use Rattle.usn_record.specs.Record.{outcome, maxRecord};
-ghost use Rattle.usn_journal.specs.Scan.{kindByVersion, visitAs, visit};
+ghost use Rattle.usn_journal.specs.Scan.{kindByVersion, visitAs, versionAt, visit};
 ghost use Rattle.usn_journal.specs.Step.{Lying, visitOf, parsedVisit};
 use usn_record::Parsed;
 use usn_record::bytes::le_u16;
@@ -70,7 +69,7 @@ pub(crate) fn scan_step(extract: &[u8], o: usize) -> ScanStep
 // offset and is as long as its length field, a version 4 record is a range, and anything else moves on 8.
 fn version_step(extract: &[u8], o: usize, n: usize) -> ScanStep
     requires { ⌜ Lying (now extract) o n ⌝ }
-    ensures { λ r. ⌜ visitOf r ≡ visitAs o n (kindByVersion n (leAt 2 (now (extract .entry)) (o + 4))) ⌝ }
+    ensures { λ r. ⌜ visitOf r ≡ visitAs o n (kindByVersion n (versionAt (now (extract .entry)) o)) ⌝ }
 {
     let e = o + n;
     let version = le_u16(extract, o + 4);

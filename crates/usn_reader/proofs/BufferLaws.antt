@@ -18,14 +18,16 @@ use Rattle.usn_record.specs.Record.{listed}
 use Rattle.usn_record.specs.declared.UsnRecord.{UsnRecord}
 use Rattle.usn_record.proofs.ByteLaws.{read-part}
 use Rattle.usn_record.proofs.ListedLaws.{listed-moved}
-use Rattle.usn_reader.specs.Window.{windowSize, refusalOf, wantedOf, refilled, skipped, finished, Ready}
+use Rattle.window_numbers.specs.Numbers.{windowSize}
+use Rattle.usn_reader.specs.Window.{numbersIn, refusalOf, wantedOf, refilled, skipped, finished, Ready}
 use Rattle.usn_reader.specs.Rule.{Reads, bufferReads, journalReads, reading, asking, orEnd, pastEnd, given, byLength, turnOf, onward, turns, searched}
 use Rattle.usn_reader.specs.Calls.{nextOf}
 use Rattle.usn_reader.specs.declared.UsnJournalReader.{UsnJournalReader}
 use Rattle.usn_reader.specs.declared.Reading.{Reading}
 use Rattle.usn_reader.specs.declared.turn.Turn.{Turn}
 use Rattle.usn_reader.specs.declared.turn.Turn.the-variants.{Done, Again}
-use Rattle.usn_reader.proofs.WindowLaws.{Sound, sound-of, ready-of, wants-rest}
+use Rattle.window_numbers.proofs.NumberLaws.{sound-of}
+use Rattle.usn_reader.proofs.WindowLaws.{Sound, ready-of, wants-rest}
 use Rattle.usn_reader.proofs.SearchLaws.{Moved, Shape, turn-shape, ready-moved}
 
 -- the buffer b holds what a window over the journal s says that it holds
@@ -136,10 +138,10 @@ module _ (s b : List ℕ) where
   unfolding nextOf searched
   next-same w f =
       cond-two Alike (eqb (refusalOf w windowSize) 0)
-      (λ a. let sd : Sound w windowSize = sound-of w windowSize (eqb-true _ _ a) in
+      (λ a. let sd : Sound w windowSize = sound-of (numbersIn w) windowSize (eqb-true _ _ a) in
       cond-two Alike (w .ended) (λ _. (refl, f)) λ e.
       cond-two Alike (eqb (wantedOf w) 0)
-      (λ z. turns-same (suc (w .end - w .position)) w f (ready-of sd) (full sd (wants-rest w e ∙ eqb-true _ _ z)))
+      (λ z. turns-same (suc (w .end - w .position)) w f (ready-of w sd) (full sd (wants-rest w e ∙ eqb-true _ _ z)))
       (λ _. (refl, f)))
       (λ _. (refl, f))
     where

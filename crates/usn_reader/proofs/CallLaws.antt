@@ -8,19 +8,17 @@ use lib.ListN.{length}
 use lib.Seq.{sets}
 use borrow.Author.Tests.{lt-ltb, le-ltb, eq-eqb, ne-eqb}
 use Rattle.walk.specs.Refusals.{tooManyBytes}
-use Rattle.usn_reader.specs.Window.{refusalOf, wantedOf, finished, fedBy, Ready}
+use Rattle.usn_reader.specs.Window.{numbersIn, refusalOf, wantedOf, finished, fedBy}
 use Rattle.usn_reader.specs.Rule.{Reads, reading, asking, searched}
 use Rattle.usn_reader.specs.Calls.{nextOf, giveRefusal, giveOf, bufferAfter}
 use Rattle.usn_reader.specs.Promise.{Gives}
 use Rattle.usn_reader.specs.declared.UsnJournalReader.{UsnJournalReader}
 use Rattle.usn_reader.specs.declared.Answer.the-variants.{End, Refused}
 use Rattle.usn_reader.specs.declared.Reading.{Reading}
-use Rattle.usn_reader.proofs.WindowLaws.{Sound, sound-of, ready-of, wanted-le}
+use Rattle.window_numbers.proofs.NumberLaws.{sound}
+use Rattle.usn_reader.proofs.WindowLaws.{wanted-le}
 
 module _ (w : UsnJournalReader) (n : ℕ) {k : ℕ} (e : k ≡ refusalOf w n) where
-  pub sound : k ≡ 0 → Sound w n
-  sound z = sound-of w n (sym e ∙ z)
-
   module _ (r : Reads) where
     pub next-refused : (k ≡ 0 → ⊥) → reading (Refused k) w ≡ nextOf r n w
     unfolding nextOf
@@ -58,7 +56,7 @@ module _ (b bytes : List ℕ) (w : UsnJournalReader) {k : ℕ} (e : k ≡ refusa
     module _ (h : length bytes ≤ m) where
       -- the bytes have room behind those that are held
       pub give-fits : w .start + (w .held + length bytes) ≤ w .end
-      give-fits = let s = sound w (length b) e z in omega (arith, s .fits, wanted-le w)
+      give-fits = let s = sound (numbersIn w) (length b) e z in omega (arith, s .fits, wanted-le w)
 
       pub give-nothing : length bytes ≡ 0 → m ≡ 0 → {x : Reading} → x ≡ asking w → Gives w b bytes x b
       unfolding giveOf giveRefusal bufferAfter

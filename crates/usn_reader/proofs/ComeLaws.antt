@@ -14,7 +14,8 @@ use Rattle.walk.proofs.ChoiceLaws.{cond-cases, cond-two}
 use Rattle.usn_record.specs.Bytes.{leAt}
 use Rattle.usn_record.specs.Record.{listed}
 use Rattle.usn_record.specs.declared.UsnRecord.{UsnRecord}
-use Rattle.usn_reader.specs.Window.{windowSize, windowEnd, refilled, skipped, finished}
+use Rattle.window_numbers.specs.Numbers.{windowSize, windowEnd}
+use Rattle.usn_reader.specs.Window.{refilled, skipped, finished}
 use Rattle.usn_reader.specs.Rule.{Reads, journalReads, namedFrom, asking, orEnd, pastEnd, given, byLength, turnOf, onward, searched}
 use Rattle.usn_reader.specs.Journal.{Step, over, onto, found, refillTo, stepAt, afterStep, toCome}
 use Rattle.usn_reader.specs.Run.{placeOf, coming, Told, Tells}

@@ -9,7 +9,7 @@ use lib.ListN.{length}
 use lib.Dec.{eqb}
 use borrow.Author.Tests.{ne-eqb}
 use Rattle.walk.specs.Places.{part}
-use Rattle.usn_reader.specs.Window.{streamDomain}
+use Rattle.window_numbers.specs.Numbers.{streamDomain}
 use Rattle.usn_reader.specs.Run.{next, give}
 use Rattle.usn_reader.specs.Owed.{Owed}
 use Rattle.usn_reader.specs.Delivery.{callOf, ended, journalRecords, Way, deliveredBy, Delivered}

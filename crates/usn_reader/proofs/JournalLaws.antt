@@ -13,7 +13,7 @@ use Rattle.walk.specs.declared.Place.{Place}
 use Rattle.walk.proofs.ChoiceLaws.{cond-cases, or-left, or-right}
 use Rattle.usn_record.specs.Bytes.{leAt}
 use Rattle.usn_record.specs.Record.{listed}
-use Rattle.usn_reader.specs.Window.{windowSize, windowEnd}
+use Rattle.window_numbers.specs.Numbers.{windowSize, windowEnd}
 use Rattle.usn_reader.specs.Journal.{Step, over, onto, found, refillTo, stepAt, afterStep, steps, toCome}
 
 -- a position and an end that a window over s may have

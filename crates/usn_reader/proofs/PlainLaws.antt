@@ -15,7 +15,7 @@ use Rattle.walk.proofs.ChoiceLaws.{cond-cases, or-left, or-right}
 use Rattle.walk.proofs.WalkLaws.{Forward, from-step, Stays}
 use Rattle.usn_record.specs.Bytes.{leAt}
 use Rattle.usn_record.specs.Record.{listed}
-use Rattle.usn_reader.specs.Window.{windowSize, windowEnd}
+use Rattle.window_numbers.specs.Numbers.{windowSize, windowEnd}
 use Rattle.usn_reader.specs.Journal.{Step, over, onto, found, refillTo, stepAt, afterStep, toCome, windowList, plainVisit}
 use Rattle.usn_reader.proofs.JournalLaws.{Steady, left, Falls, step-falls, to-come}
 

@@ -20,7 +20,8 @@ use Rattle.usn_record.specs.declared.UsnRecord.{UsnRecord}
 use Rattle.usn_record.proofs.ByteLaws.{read-agree}
 use Rattle.usn_record.proofs.NameLaws.{fixed-low}
 use Rattle.usn_record.proofs.ListedLaws.{reachOf, listed-reads, listed-fixed}
-use Rattle.usn_reader.specs.Window.{windowSize, refusalOf, wantedOf, refilled, skipped, finished}
+use Rattle.window_numbers.specs.Numbers.{windowSize}
+use Rattle.usn_reader.specs.Window.{refusalOf, wantedOf, refilled, skipped, finished}
 use Rattle.usn_reader.specs.Rule.{Reads, journalReads, namedFrom, reading, asking, orEnd, pastEnd, given, byLength, turnOf, onward, searched}
 use Rattle.usn_reader.specs.Calls.{nextOf, giveRefusal, giveOf}
 use Rattle.usn_reader.specs.declared.UsnJournalReader.{UsnJournalReader}

@@ -6,13 +6,14 @@ use lib.ListN.{length}
 use lib.Dec.{eqb}
 use borrow.Author.Tests.{ne-eqb}
 use Rattle.walk.specs.Places.{part}
-use Rattle.usn_reader.specs.Window.{windowSize, refusalOf, wantedOf}
+use Rattle.window_numbers.specs.Numbers.{windowSize}
+use Rattle.usn_reader.specs.Window.{numbersIn, refusalOf, wantedOf}
 use Rattle.usn_reader.specs.Rule.{Reads, bufferReads, journalReads}
 use Rattle.usn_reader.specs.Calls.{nextOf, giveRefusal, giveOf}
 use Rattle.usn_reader.specs.Run.{Call, next, give, nextOther, giveOther, State, Shape, asks, gives, shapeOf, readingOf, bufferOf, stateAfter, readings, shapes}
 use Rattle.usn_reader.specs.declared.UsnJournalReader.{UsnJournalReader}
 use Rattle.usn_reader.specs.declared.Reading.{Reading}
-use Rattle.usn_reader.proofs.WindowLaws.{sound-of}
+use Rattle.window_numbers.proofs.NumberLaws.{sound-of}
 use Rattle.usn_reader.proofs.BufferLaws.{Filled, next-same}
 use Rattle.usn_reader.proofs.GiveLaws.{give-filled}
 
@@ -40,7 +41,7 @@ AllGo (c ∷ cs) st = Goes c st × AllGo cs (stateAfter c st)
 
 -- a call with a buffer of another length is refused
 pub other : (w : UsnJournalReader) (n : ℕ) → (n ≡ windowSize → ⊥) → refusalOf w n ≡ 0 → ⊥
-other w n h e = h (sound-of w n e .buffer)
+other w n h e = h (sound-of (numbersIn w) n e .buffer)
 
 other-next : (r q : Reads) (n : ℕ) (w : UsnJournalReader) → (n ≡ windowSize → ⊥) → (nextOf r n w ≡ nextOf q n w) × (nextOf r n w .reader ≡ w)
 unfolding nextOf

@@ -11,7 +11,8 @@ use Rattle.walk.specs.Outcome.{Outcome, refused, answered}
 use Rattle.walk.specs.Places.{round8}
 use Rattle.walk.proofs.ChoiceLaws.{cond-cases, or-left}
 use Rattle.usn_record.specs.declared.UsnRecord.{UsnRecord}
-use Rattle.usn_reader.specs.Window.{windowSize, refilled, skipped, movedBy, Ready}
+use Rattle.window_numbers.specs.Numbers.{windowSize}
+use Rattle.usn_reader.specs.Window.{refilled, skipped, movedBy, Ready}
 use Rattle.usn_reader.specs.Rule.{Reads, bufferReads, orEnd, given, byLength, turnOf, onward, turns, searched, Passes}
 use Rattle.usn_reader.specs.declared.UsnJournalReader.{UsnJournalReader}
 use Rattle.usn_reader.specs.declared.Reading.{Reading}

@@ -13,7 +13,8 @@ use Rattle.walk.specs.Lists.{All}
 use Rattle.walk.specs.Refusals.{tooManyBytes}
 use Rattle.walk.specs.declared.Place.{Place}
 use Rattle.walk.proofs.ChoiceLaws.{cond-cases}
-use Rattle.usn_reader.specs.Window.{windowSize, refusalOf, wantedOf, finished, fedBy, fresh}
+use Rattle.window_numbers.specs.Numbers.{windowSize}
+use Rattle.usn_reader.specs.Window.{refusalOf, wantedOf, finished, fedBy, fresh}
 use Rattle.usn_reader.specs.Rule.{Reads, bufferReads, journalReads, reading, asking, searched}
 use Rattle.usn_reader.specs.Calls.{nextOf, giveRefusal, giveOf}
 use Rattle.usn_reader.specs.Journal.{windowList}

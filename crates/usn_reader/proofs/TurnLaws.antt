@@ -16,7 +16,8 @@ use Rattle.usn_record.specs.declared.UsnRecord.{UsnRecord}
 use Rattle.usn_record.specs.declared.Parsed.{Parsed}
 use Rattle.usn_record.specs.declared.Parsed.the-variants.{Record as Accepted, Refused as Rejected}
 use Rattle.usn_record.proofs.NameLaws.{listed-name}
-use Rattle.usn_reader.specs.Window.{windowSize, windowEnd, wantedOf, refilled, skipped, advanced, finished, Ready}
+use Rattle.window_numbers.specs.Numbers.{windowSize, windowEnd}
+use Rattle.usn_reader.specs.Window.{wantedOf, refilled, skipped, advanced, finished, Ready}
 use Rattle.usn_reader.specs.Rule.{Reads, namedFrom, reading, asking, orEnd, pastEnd, given, byLength, turnOf, onward, turns, searched}
 use Rattle.usn_reader.specs.declared.UsnJournalReader.{UsnJournalReader}
 use Rattle.usn_reader.specs.declared.Answer.the-variants.{Record, End}

@@ -16,7 +16,7 @@ use Rattle.usn_record.specs.Bytes.{leAt}
 use Rattle.usn_record.specs.Record.{listed}
 use Rattle.usn_record.specs.Names.{fixedOf, nameAt}
 use Rattle.usn_record.proofs.NameLaws.{fixed-low, listed-agrees, name-after-fixed, name-before-end}
-use Rattle.usn_reader.specs.Window.{windowSize}
+use Rattle.window_numbers.specs.Numbers.{windowSize}
 use Rattle.usn_reader.specs.Run.{Call, Shape, asks, gives, shapeOf, readings, placeOf, givenBy, freshOver, shapes}
 use Rattle.usn_reader.specs.Owed.{Delivery}
 use Rattle.usn_reader.specs.declared.UsnJournalReader.{UsnJournalReader}

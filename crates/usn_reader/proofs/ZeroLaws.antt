@@ -11,7 +11,8 @@ use Rattle.usn_record.specs.Bytes.{leAt}
 use Rattle.usn_record.specs.Zeros.{PastZeros}
 use Rattle.usn_record.proofs.ByteLaws.{read-part}
 use Rattle.usn_record.proofs.ZeroLaws.{past-inside, past-whole, zeros-passed}
-use Rattle.usn_reader.specs.Window.{windowSize, movedBy, skipped, Ready}
+use Rattle.window_numbers.specs.Numbers.{windowSize}
+use Rattle.usn_reader.specs.Window.{movedBy, skipped, Ready}
 use Rattle.usn_reader.specs.Rule.{bufferReads, onward, searched, Passes}
 use Rattle.usn_reader.specs.declared.UsnJournalReader.{UsnJournalReader}
 use Rattle.usn_reader.specs.declared.Reading.{Reading}

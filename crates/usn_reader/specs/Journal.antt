@@ -11,7 +11,7 @@ use Rattle.walk.specs.declared.Place.{Place}
 use Rattle.usn_record.specs.Bytes.{leAt}
 use Rattle.usn_record.specs.Record.{listed}
 use Rattle.usn_record.specs.declared.UsnRecord.{UsnRecord}
-use Rattle.usn_reader.specs.Window.{windowSize, windowEnd}
+use Rattle.window_numbers.specs.Numbers.{windowSize, windowEnd}
 
 -- what the window does at position p, where its window ends at e: it is over, or goes on at another position with another end
 pub data Step : Type 0 where

@@ -7,7 +7,7 @@ use mathlib.Core.Bool.{cond}
 use lib.ListN.{length}
 use lib.Dec.{eqb}
 use Rattle.walk.specs.Places.{part}
-use Rattle.usn_reader.specs.Window.{windowSize}
+use Rattle.window_numbers.specs.Numbers.{windowSize}
 use Rattle.usn_reader.specs.Run.{Call, next, give, nextOther, giveOther, State, readingOf, stateAfter, freshOver}
 use Rattle.usn_reader.specs.declared.Answer.{Answer}
 use Rattle.usn_reader.specs.declared.Answer.the-variants.{Record, Wants, End, Refused}

@@ -8,7 +8,8 @@ use Rattle.walk.specs.declared.Place.{Place}
 use Rattle.usn_record.specs.Bytes.{leAt}
 use Rattle.usn_record.specs.Record.{listed}
 use Rattle.usn_record.specs.declared.UsnRecord.{UsnRecord}
-use Rattle.usn_reader.specs.Window.{windowSize, fresh}
+use Rattle.window_numbers.specs.Numbers.{windowSize}
+use Rattle.usn_reader.specs.Window.{fresh}
 use Rattle.usn_reader.specs.Rule.{bufferReads, namedFrom}
 use Rattle.usn_reader.specs.Journal.{toCome}
 use Rattle.usn_reader.specs.Calls.{nextOf, giveOf, bufferAfter}

@@ -1,45 +1,18 @@
--- The window's numbers: which may be a window's, what it wants, and its moves.
-use Prim.Native.Nat.{ℕ, _+_, _-_, _*_, _/_, _%_, _≤_, min}
+-- The window: whether its numbers may be a window's, what it wants, and its moves.
+use Prim.Native.Nat.{ℕ, _+_, _-_, _%_, _≤_}
 use mathlib.Core.Path.{_≡_}
-use mathlib.Core.Bool.{Bool, true, false, cond, not, _&&_, _||_}
-use lib.Dec.{ltb, leb, eqb}
+use mathlib.Core.Bool.{true, false, cond}
 use Rattle.walk.specs.Places.{round8}
-use Rattle.walk.specs.Refusals.{aboveDomain, badState, badBuffer}
+use Rattle.window_numbers.specs.Numbers.{windowSize, streamDomain, windowEnd, Numbers, numbersOf, refusalOf as refusalOfNumbers}
 use Rattle.usn_reader.specs.declared.UsnJournalReader.{UsnJournalReader}
 
--- the bytes of a window
-abbrev pub windowSize : ℕ
-windowSize = 65536
-
--- the most bytes of a stream
-abbrev pub streamDomain : ℕ
-streamDomain = 1099511627776
-
--- where a window that starts at p ends
-abbrev pub windowEnd : ℕ → ℕ → ℕ
-windowEnd p total = min (p + windowSize) total
-
--- the end is not that of a window that starts there, nor 0, as before the first refill
-unfoldable pub wrongEnd : UsnJournalReader → Bool
-wrongEnd w = not (eqb (w .end) (windowEnd (w .start) (w .total)) || eqb (w .end) 0)
-
--- the numbers cannot be a window's
-unfoldable pub wrongNumbers : UsnJournalReader → Bool
-wrongNumbers w =
-    wrongEnd w
-    || not (eqb (w .start % 8) 0)
-    || not (eqb (w .position % 8) 0)
-    || ltb (w .position) (w .start)
-    || ltb (round8 (w .end)) (w .position)
-    || ltb (w .end) (w .start + w .held)
+-- those that decide whether a call is refused
+abbrev pub numbersIn : UsnJournalReader → Numbers
+numbersIn w = numbersOf (w .start) (w .position) (w .end) (w .held) (w .total)
 
 -- the refusal of a call with a buffer of n bytes, or 0
-unfoldable pub refusalOf : UsnJournalReader → ℕ → ℕ
-refusalOf w n =
-    cond (ltb streamDomain (w .total)) aboveDomain
-    (cond (eqb n windowSize)
-    (cond (wrongNumbers w) badState 0)
-    badBuffer)
+abbrev pub refusalOf : UsnJournalReader → ℕ → ℕ
+refusalOf w n = refusalOfNumbers (numbersIn w) n
 
 -- the bytes that the window still wants; none after an end
 unfoldable pub wantedOf : UsnJournalReader → ℕ

@@ -16,9 +16,10 @@ ghost use Rattle.usn_reader.specs.Calls.{nextOf};
 ghost use Rattle.usn_reader.specs.Promise.{GivePromise};
 ghost use Rattle.usn_reader.specs.Rule.{bufferReads};
 use usn_record::UsnRecord;
+use window_numbers::WINDOW_SIZE;
 
 // The bytes of a window, and the length of the buffer that is lent for it.
-pub const BUF_SIZE: usize = 65536;
+pub const BUF_SIZE: usize = WINDOW_SIZE;
 
 // The window's numbers. The buffer holds the stream's bytes from start on, up to held of them; records are read from position on up
 // to end; ended says that nothing is wanted any more.

@@ -1,78 +1,27 @@
 // The window's numbers: which may be a window's, what it wants, and its moves, each a method that returns the next window.
 ghost use mathlib.Core.Path.{_≡_};
 ghost use Prim.Native.Nat.{_+_, _≤_, _<_};
-ghost use Rattle.usn_reader.specs.Window.{windowEnd, wrongEnd, refusalOf, wantedOf, refilled, skipped, advanced, finished, fedBy};
+ghost use Rattle.usn_reader.specs.Window.{refusalOf, wantedOf, refilled, skipped, advanced, finished, fedBy};
 ghost use Rattle.usn_reader.specs.Rule.{asking as asks};
 use crate::Answer;
-use crate::BUF_SIZE;
 use crate::Reading;
 use crate::UsnJournalReader;
-
-// The most bytes of a stream.
-const STREAM_DOMAIN: usize = 1099511627776;
-
-// Where a window that starts at p ends.
-fn window_end(p: usize, total: usize) -> usize
-    ensures { λ r. ⌜ r ≡ windowEnd p total ⌝ }
-{
-    if total <= p {
-        return total;
-    }
-    if total - p <= BUF_SIZE {
-        return total;
-    }
-    p + BUF_SIZE
-}
+use window_numbers::refusal;
+use window_numbers::window_end;
 
 impl UsnJournalReader {
     // The number of the refusal of a call with a buffer of so many bytes, or 0.
     pub(crate) fn refusal(self, buffer_length: usize) -> u32
         ensures { λ r. ⌜ r ≡ refusalOf self «buffer_length» ⌝ }
     {
-        if STREAM_DOMAIN < self.total {
-            return walk::ABOVE_DOMAIN;
-        }
-        if buffer_length != BUF_SIZE {
-            return walk::BAD_BUFFER;
-        }
-        if self.total < self.end {
-            return walk::BAD_STATE;
-        }
-        if self.wrong_end() {
-            return walk::BAD_STATE;
-        }
-        if self.start % 8 != 0 {
-            return walk::BAD_STATE;
-        }
-        if self.position % 8 != 0 {
-            return walk::BAD_STATE;
-        }
-        if self.position < self.start {
-            return walk::BAD_STATE;
-        }
-        if (self.end + 7) / 8 * 8 < self.position {
-            return walk::BAD_STATE;
-        }
-        if self.end < self.start {
-            return walk::BAD_STATE;
-        }
-        if self.end - self.start < self.held {
-            return walk::BAD_STATE;
-        }
-        0
-    }
-
-    // The end is not that of a window that starts there, nor 0, as before the first refill.
-    fn wrong_end(self) -> bool
-        ensures { λ r. ⌜ r ≡ wrongEnd self ⌝ }
-    {
-        if self.end == window_end(self.start, self.total) {
-            return false;
-        }
-        if self.end == 0 {
-            return false;
-        }
-        true
+        refusal(
+            self.start,
+            self.position,
+            self.end,
+            self.held,
+            self.total,
+            buffer_length,
+        )
     }
 
     // The bytes that the window still wants; none after an end.

@@ -6,3 +6,4 @@ pub mod NameLaws
 pub mod ListedLaws
 pub mod TestLaws
 pub mod ZeroLaws
+pub mod SampleLaws

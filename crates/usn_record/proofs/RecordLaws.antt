@@ -103,9 +103,9 @@ module _ (l : Layout) (s : List ℕ) where
       })
 
   -- the record put together from what its reads gave; z and y are the USN and the time as the code passes them on
-  pub assembled : {usn time minor length reason attributes source security nameOffset nameLength : ℕ} {file parent : Reference} {z z′ y y′ : ℤ}
+  pub assembled : {usn time minor size reason attributes source security nameOffset nameLength : ℕ} {file parent : Reference} {z z′ y y′ : ℤ}
       {timestamp : Timestamp} {name : Place}
-      → length ≡ leAt 4 s 0
+      → size ≡ leAt 4 s 0
       → file ≡ referenceOf (l .sequenced) (leAt (l .reference) s (l .file))
       → parent ≡ referenceOf (l .sequenced) (leAt (l .reference) s (l .parent))
       → time ≡ leAt 8 s (l .time)
@@ -132,7 +132,7 @@ module _ (l : Layout) (s : List ℕ) where
         «security_id» = security;
         «major_version» = l .major;
         «minor_version» = minor;
-        «record_length» = length;
+        «record_length» = size;
         filetime = y′;
         «file_reference_high» = file .high;
         «parent_reference_high» = parent .high;
@@ -204,9 +204,9 @@ module _ (l : Layout) (k : Inside l) where
         let fld : leAt 4 (part s o n) 0 ≡ n = part-length-field in
         record { small = omega arith; whole = omega arith; least = omega arith; most = omega arith; held = λ _. omega arith }
 
-  pub part-accepted : (s : List ℕ) (o : ℕ) {n : ℕ} → n ≡ leAt 4 s o → length s ≤ domain → o + n ≤ length s → l .fixed ≤ n → n ≤ maxRecord
+  pub part-accepted : (s : List ℕ) (o : ℕ) {n : ℕ} → n ≡ leAt 4 s o → o + n ≤ length s → l .fixed ≤ n → n ≤ maxRecord
       → parsed l (part s o n) ≡ answered (recordOf l (part s o n))
-  part-accepted s o e a b f h = sym (accepted l _ (part-accepts s o e b f h))
+  part-accepted s o e b f h = sym (accepted l _ (part-accepts s o e b f h))
 
 -- where a record's name lies in its slice
 pub name-lies : (l : Layout) (s : List ℕ) → NameAt (nameEnd l s) (leAt 2 s (l .nameOffset)) (recordOf l s .filename)

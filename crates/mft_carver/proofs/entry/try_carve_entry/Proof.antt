@@ -1,7 +1,7 @@
 -- Each way out by the tests that led to it.
 use mathlib.Core.Path.{refl}
 use native.Mathlib.Omega.{arith}
-use Rattle.mft_carver.proofs.LieLaws.{found-lies}
+use Rattle.mft_attributes.proofs.LieLaws.{found-lies}
 use Rattle.mft_carver.proofs.EntryLaws.{never-used, first-below, first-above, rejected-nameless, carved-entry}
 use borrow.Author.Needs.{needs}
 use Rattle.mft_carver.proofs.entry.try_carve_entry.Statement.{statement}

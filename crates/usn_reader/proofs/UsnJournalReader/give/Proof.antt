@@ -2,8 +2,8 @@
 use borrow.Author.Needs.{needs}
 use native.Mathlib.Omega.{arith}
 use denote.Ref.{now}
-use Rattle.usn_reader.proofs.WindowLaws.{EndOf, end-of}
-use Rattle.usn_reader.proofs.CallLaws.{sound, give-refused, give-too-many, give-fits, give-nothing, give-end, give-bytes}
+use Rattle.window_numbers.proofs.NumberLaws.{sound, EndOf, end-of}
+use Rattle.usn_reader.proofs.CallLaws.{give-refused, give-too-many, give-fits, give-nothing, give-end, give-bytes}
 use Rattle.usn_reader.proofs.UsnJournalReader.give.Statement.{statement}
 use Rattle.usn_reader.proofs.UsnJournalReader.give.Tie as tie
 
@@ -32,7 +32,7 @@ returns-4 : tie.Need-returns-4
 returns-4 c = give-end _ _ _ (c .before .before .before .before .before .before .refusal .ensures) (omega arith) (c .before .before .before .before .wanted .ensures) (omega arith) (omega arith) (c .before .if4 .left) (c .finish .ensures)
 
 put-bytes-requires : tie.Need-put-bytes-requires
-put-bytes-requires c κs = let s = sound _ _ (c .before .before .before .before .before .refusal .ensures) (omega arith) in let k = give-fits (now (c .before .before .before .before .before .before .before .before .args .buffer)) (now (c .before .before .before .before .before .before .before .before .args .bytes)) _ (c .before .before .before .before .before .refusal .ensures) (omega arith) (c .before .before .before .wanted .ensures) (omega arith) in omega (arith, s .buffer, end-of _ (s .ends) .near)
+put-bytes-requires c κs = let s = sound _ _ (c .before .before .before .before .before .refusal .ensures) (omega arith) in let k = give-fits (now (c .before .before .before .before .before .before .before .before .args .buffer)) (now (c .before .before .before .before .before .before .before .before .args .bytes)) _ (c .before .before .before .before .before .refusal .ensures) (omega arith) (c .before .before .before .wanted .ensures) (omega arith) in omega (arith, s .buffer, end-of _ _ _ (s .ends) .near)
 
 fed-requires : tie.Need-fed-requires
 fed-requires c κs = give-fits (now (c .before .before .before .before .before .before .before .before .before .before .before .args .buffer)) (now (c .before .before .before .before .before .before .before .before .before .before .before .args .bytes)) _ (c .before .before .before .before .before .before .before .before .refusal .ensures) (omega arith) (c .before .before .before .before .before .before .wanted .ensures) (omega arith)

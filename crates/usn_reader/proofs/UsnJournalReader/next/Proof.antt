@@ -1,8 +1,9 @@
 -- Each answer by the tests that led to it.
 use borrow.Author.Needs.{needs}
 use native.Mathlib.Omega.{arith}
+use Rattle.window_numbers.proofs.NumberLaws.{sound}
 use Rattle.usn_reader.proofs.WindowLaws.{ready-of}
-use Rattle.usn_reader.proofs.CallLaws.{sound, next-refused, next-ended, next-asks, next-searches}
+use Rattle.usn_reader.proofs.CallLaws.{next-refused, next-ended, next-asks, next-searches}
 use Rattle.usn_reader.proofs.UsnJournalReader.next.Statement.{statement}
 use Rattle.usn_reader.proofs.UsnJournalReader.next.Tie as tie
 
@@ -25,7 +26,7 @@ returns-3 : tie.Need-returns-3
 returns-3 c = next-asks _ _ (c .before .before .before .before .before .refusal .ensures) _ (omega arith) (c .before .before .before .if2 .left) (c .before .before .wanted .ensures) (c .before .if3 .taken) (c .asking .ensures)
 
 search-requires : tie.Need-search-requires
-search-requires c κs = ready-of (sound _ _ (c .before .before .before .before .refusal .ensures) (omega arith))
+search-requires c κs = ready-of _ (sound _ _ (c .before .before .before .before .refusal .ensures) (omega arith))
 
 returns-4 : tie.Need-returns-4
 returns-4 c = next-searches _ _ (c .before .before .before .before .before .refusal .ensures) _ (omega arith) (c .before .before .before .if2 .left) (c .before .before .wanted .ensures) (omega arith) (c .search .ensures)

@@ -1,0 +1,79 @@
+-- Which name is kept, by the namespaces, and the walk over the attributes: what is kept so far, with the attributes left, is what is kept at
+-- the end. Assumes nothing.
+use Prim.Native.Nat.{ℕ, zero, suc, _-_, _≤_, _<_}
+use mathlib.Core.Path.{_≡_, refl, ap, sym, _∙_}
+use mathlib.Core.List.{List, [], _∷_}
+use mathlib.Core.Bool.{Bool, true, false, not}
+use native.Mathlib.Omega.{arith}
+use lib.Dec.{eqb}
+use borrow.Author.Tests.{ne-eqb}
+use Rattle.walk.specs.Walk.{Visit, after, walk}
+use Rattle.mft_attributes.specs.Filename.{win32, dos, win32AndDos, replaces, Attribute, other, named, keep, keepAll}
+use Rattle.mft_attributes.specs.Attributes.{visit, attributesIn, filenameIn}
+use Rattle.mft_attributes.specs.Step.{attributeOf}
+use Rattle.mft_attributes.specs.declared.attributes.AttributeStep.{AttributeStep}
+use Rattle.mft_attributes.specs.declared.attributes.AttributeStep.the-variants.{End, Other, Named}
+use Rattle.mft_attributes.specs.declared.filename.Filename.{Filename}
+use Rattle.mft_attributes.specs.declared.filename.Kept.{Kept}
+use Rattle.mft_attributes.specs.declared.filename.Kept.the-variants.{Nothing, Name}
+
+module _ (old new : ℕ) where
+  pub win32-stays : old ≡ win32 → false ≡ replaces old new
+  unfolding replaces
+  win32-stays e = rw e
+
+  pub both-stays : old ≡ win32AndDos → false ≡ replaces old new
+  unfolding replaces
+  both-stays e = rw e
+
+  pub dos-replaces-none : (old ≡ win32 → ⊥) → (old ≡ win32AndDos → ⊥) → not (eqb new dos) ≡ replaces old new
+  unfolding replaces
+  dos-replaces-none h k = simp (ne-eqb _ _ h, ne-eqb _ _ k)
+
+module _ {k : Kept} (new : Filename) where
+  pub kept-first : k ≡ Nothing → Name new ≡ keep k new
+  unfolding keep
+  kept-first e = rw e
+
+  module _ {old : Filename} (e : k ≡ Name old) {b : Bool} (f : b ≡ replaces (old .namespace) (new .namespace)) where
+    pub kept-new : b ≡ true → Name new ≡ keep k new
+    unfolding keep
+    kept-new h = rw e (simp (sym f ∙ h))
+
+    pub kept-old : b ≡ false → Name old ≡ keep k new
+    unfolding keep
+    kept-old h = rw e (simp (sym f ∙ h))
+
+-- k is kept before the attribute at a, and at most n are still walked: what is kept at the end is what is kept of the whole walk
+pub record Keeping (e : List ℕ) (first walked : ℕ) (k : Kept) (a n : ℕ) : Type 0 where
+  pub whole : keepAll k (attributesIn n e a) ≡ filenameIn walked e first
+
+pub keeping-start : (e : List ℕ) (first walked : ℕ) → Keeping e first walked Nothing first walked
+unfolding filenameIn
+keeping-start e first walked = record { whole = refl }
+
+module _ {e : List ℕ} {first walked : ℕ} {k : Kept} {a n : ℕ} (w : Keeping e first walked k a n) where
+  -- no more are walked
+  pub keeping-none : n ≤ 0 → k ≡ filenameIn walked e first
+  unfolding walk
+  keeping-none h = let z : n ≡ 0 = omega arith in rw z at (w .whole)
+
+  -- one attribute, and then the rest
+  one : (m : ℕ) → 0 < m → (v : Visit Attribute) → v ≡ visit e a → attributesIn m e a ≡ after v (walk (visit e) (m - 1))
+  unfolding walk
+  one zero h v f = absurd (omega arith)
+  one (suc m) h v f = let z : suc m - 1 ≡ m = omega arith in rw (f, z)
+
+  module _ (h : 0 < n) {r x : AttributeStep} (g : r ≡ x) (f : attributeOf r ≡ visit e a) where
+    rest : keepAll k (after (attributeOf x) (walk (visit e) (n - 1))) ≡ filenameIn walked e first
+    rest = ap (keepAll k) (sym (one n h (attributeOf x) (ap attributeOf (sym g) ∙ f))) ∙ w .whole
+
+  pub keeping-end : 0 < n → {r : AttributeStep} → r ≡ End → attributeOf r ≡ visit e a → k ≡ filenameIn walked e first
+  keeping-end h g f = rest h g f
+
+  pub keeping-other : 0 < n → {r : AttributeStep} {p : ℕ} → r ≡ Other p → attributeOf r ≡ visit e a → Keeping e first walked k p (n - 1)
+  keeping-other h g f = record { whole = rest h g f }
+
+  pub keeping-named : 0 < n → {r : AttributeStep} {new : Filename} {p : ℕ} → r ≡ Named new p → attributeOf r ≡ visit e a
+      → {k′ : Kept} → k′ ≡ keep k new → Keeping e first walked k′ p (n - 1)
+  keeping-named h g f i = record { whole = rw i (rest h g f) }

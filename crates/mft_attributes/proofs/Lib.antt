@@ -1,0 +1,4 @@
+pub mod FilenameLaws
+pub mod AttributeLaws
+pub mod LieLaws
+pub mod TwoRunLaws

@@ -1,0 +1,3 @@
+pub mod Filename
+pub mod Attributes
+pub mod Step

@@ -1,0 +1,119 @@
+// The attributes of an entry, one after the other, and the best name among them.
+ghost use mathlib.Core.Path.{_≡_};
+ghost use Prim.Native.Nat.{_+_, _≤_};
+ghost use lib.ListN.{length};
+ghost use Rattle.walk.specs.Walk.{go};
+ghost use mathlib.Core.List.{[], _∷_};
+ghost use Rattle.usn_record.specs.Bytes.{leAt};
+ghost use Rattle.mft_attributes.specs.Attributes.{fileName, headerAt, attributeAt, visit, filenameIn};
+ghost use Rattle.mft_attributes.specs.Step.{attributeOf};
+use crate::filename::Filename;
+use crate::filename::Kept;
+use crate::filename::keep_better;
+use usn_record::bytes::byte_at;
+use usn_record::bytes::le_u16;
+use usn_record::bytes::le_u32;
+use usn_record::bytes::le_u64;
+use usn_record::fields::parts_of;
+use walk::Place;
+
+// The type of a $FILE_NAME attribute.
+const ATTR_FILE_NAME: u32 = 0x30;
+// The mark after the last attribute.
+const ATTR_END_MARKER: u32 = 0xFFFF_FFFF;
+
+// What stands at an offset: the end of the walk, or an attribute, one that gives a name or another, and the offset past it.
+pub enum AttributeStep {
+    End,
+    Other(usize),
+    Named(Filename, usize),
+}
+
+// The best name among the first attributes, from first on, at most walked of them.
+pub fn best_filename(entry: &[u8], first: usize, walked: usize) -> Kept
+    ensures { λ r. ⌜ r ≡ filenameIn walked (now (entry .entry)) first ⌝ }
+{
+    let mut best = Kept::Nothing;
+    let mut a = first;
+    let mut left = walked;
+    while 0 < left {
+        left -= 1;
+        match attribute_step(entry, a) {
+            AttributeStep::End => return best,
+            AttributeStep::Other(next) => a = next,
+            AttributeStep::Named(name, next) => {
+                best = keep_better(best, name);
+                a = next;
+            }
+        }
+    }
+    best
+}
+
+// The attribute at a.
+fn attribute_step(entry: &[u8], a: usize) -> AttributeStep
+    ensures { λ r. ⌜ attributeOf r ≡ visit (now (entry .entry)) a ⌝ }
+{
+    let end = entry.len();
+    if end < 8 {
+        return AttributeStep::End;
+    }
+    if end - 8 < a {
+        return AttributeStep::End;
+    }
+    let kind = le_u32(entry, a);
+    if kind == ATTR_END_MARKER {
+        return AttributeStep::End;
+    }
+    let size = le_u32(entry, a + 4) as usize;
+    if size < 8 {
+        return AttributeStep::End;
+    }
+    if end - a < size {
+        return AttributeStep::End;
+    }
+    if kind == ATTR_FILE_NAME {
+        return filename_step(entry, a, size);
+    }
+    AttributeStep::Other(a + size)
+}
+
+// The $FILE_NAME attribute of size bytes at a. A name does not end inside it where its content's first 66 bytes do not, so no
+// more is read then.
+fn filename_step(entry: &[u8], a: usize, size: usize) -> AttributeStep
+    requires { ⌜ (fileName ≡ leAt 4 (now entry) a) × (size ≡ leAt 4 (now entry) (a + 4)) × (8 ≤ size) × (a + size ≤ length (now entry)) ⌝ }
+    ensures { λ r. ⌜ attributeOf r ≡ go (attributeAt (now (entry .entry)) a (headerAt (now (entry .entry)) a) ∷ []) (a + size) ⌝ }
+{
+    let next = a + size;
+    if entry.len() - a <= 8 {
+        return AttributeStep::Other(next);
+    }
+    if byte_at(entry, a + 8) != 0 {
+        return AttributeStep::Other(next);
+    }
+    if le_u32(entry, a + 16) < 66 {
+        return AttributeStep::Other(next);
+    }
+    let c = a + le_u16(entry, a + 20) as usize;
+    if next < c + 66 {
+        return AttributeStep::Other(next);
+    }
+    let length = 2 * (byte_at(entry, c + 64) as usize);
+    if length == 0 {
+        return AttributeStep::Other(next);
+    }
+    if next < c + 66 + length {
+        return AttributeStep::Other(next);
+    }
+    AttributeStep::Named(
+        Filename {
+            place: Place {
+                offset: c + 66,
+                length,
+            },
+            parent: parts_of(le_u64(entry, c), 0, true),
+            namespace: byte_at(entry, c + 65),
+        },
+        next,
+    )
+}
