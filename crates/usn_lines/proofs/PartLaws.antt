@@ -19,11 +19,11 @@ use Rattle.utf16.proofs.PutLaws as puts
 use Rattle.utf16.proofs.PutLaws.{put-then, put-as}
 use Rattle.additions.specs.Walking.{recordsIn, offsetIn}
 use Rattle.rewind.specs.declared.Rewind.{Rewind}
-use Rattle.usn_lines.specs.Line.{numbers}
+use Rattle.usn_fields.specs.Line.{numbers}
 use Rattle.usn_lines.specs.Listing.{Standing, standing, header, recordsWord, lineEnd, lastLine, numbersOf, numbersAt, onward, pathOf, line, part, afterPart}
 use Rattle.usn_lines.specs.Promise.{Puts}
 use Rattle.usn_lines.specs.declared.Put.{Put}
-use Rattle.usn_lines.proofs.FieldLaws.{Filled, fill-of, decimal-word}
+use Rattle.usn_fields.proofs.FieldLaws.{Filled, fill-of, decimal-word}
 
 -- the numbers of a record by what its parser says
 abbrev Numbered : List ℕ → List ℕ → ℕ → List ℕ → Type 0

@@ -23,10 +23,10 @@ use Rattle.rewind.specs.declared.Rewind.{Rewind}
 use Rattle.rewind_run.specs.Running.{Run, runFrom, onward as runOn, running, ran}
 use Rattle.rewind_run.specs.Promise.{RunsIndexed}
 use Rattle.rewind_run.specs.declared.RewindRun.{RewindRun}
-use Rattle.usn_lines.specs.Line.{questionMark, shownByte, shownTo}
+use Rattle.usn_fields.specs.Line.{questionMark, shownByte, shownTo}
 use Rattle.usn_lines.specs.Listing.{Standing, standing, shownPath, onward, pathOf}
 use Rattle.usn_lines.specs.Promise.{Puts, Passes}
-use Rattle.usn_lines.proofs.ShownLaws.{shown-front, length-shown}
+use Rattle.usn_fields.proofs.ShownLaws.{shown-front, length-shown}
 
 -- an answer with text is an answer without, whose text has room
 told-step : (journal : List ℕ) (room : ℕ) (o : Outcome (Next Step)) (x : Step) → withText (nextText journal []) room o ≡ answered (next x)

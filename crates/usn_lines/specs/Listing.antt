@@ -19,7 +19,7 @@ use Rattle.rewind.specs.Starting.{Tables, started, begun}
 use Rattle.rewind.specs.Stepping.{stepped, stateOf, rewindAfter, wordsAfter}
 use Rattle.rewind.specs.Telling.{told}
 use Rattle.rewind.specs.declared.Rewind.{Rewind}
-use Rattle.usn_lines.specs.Line.{questionMark, shownByte, numbers}
+use Rattle.usn_fields.specs.Line.{questionMark, shownByte, numbers}
 
 -- the ASCII code of a line end
 abbrev pub lineEnd : List ℕ

@@ -6,9 +6,7 @@
 // of them to the front of a lent text. All parts, one behind the other, are the listing (`parts-make-listing`).
 //
 // Every function here is proved, with the text that it writes.
-mod fields;
 mod next_path;
-mod shown;
 
 ghost use Prim.Native.Nat.{_+_, _*_, _≤_, _<_};
 ghost use mathlib.Core.Path.{_≡_};
@@ -16,11 +14,11 @@ ghost use lib.ListN.{length};
 ghost use lib.Seq.{sets};
 ghost use Rattle.usn_lines.specs.Listing.{numbersAt, lastLine};
 ghost use Rattle.usn_lines.specs.Promise.{BeginPromise, StartPromise, LinePromise, PartPromise};
-use crate::fields::put_numbers;
 use crate::next_path::put_path;
 use rewind::Rewind;
 use rewind::Started;
 use rewind::rewind_start;
+use usn_fields::fields::put_numbers;
 use usn_journal::Scanned;
 use usn_journal::parse_usn_journal;
 use usn_record::Parsed;

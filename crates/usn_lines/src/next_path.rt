@@ -1,10 +1,8 @@
 // The path of the next record into a text, as it is shown.
 ghost use Prim.Native.Nat.{_≤_};
-ghost use mathlib.Core.Path.{_≡_};
 ghost use lib.ListN.{length};
 ghost use Rattle.usn_lines.specs.Promise.{PassPromise, PathPromise};
 use crate::Put;
-use crate::shown::show;
 use additions::entries::replaces_forward;
 use entry_table::Stored;
 use entry_table::adding::add;
@@ -12,13 +10,15 @@ use rewind::Rewind;
 use rewind_records::turn::Turn;
 use rewind_records::turn::next_record;
 use rewind_run::rewind_run;
+use usn_fields::shown::show;
 use utf16::plain::put_byte;
 
 // The most bytes of a path that is shown.
 const MOST_PATH: usize = 65536;
 
 // The next record's path, as it is shown, at the front of a text, and the rewind after it. A path that does not fit is one `?`, and
-// the record is passed without its path: whether it fits or not, table and rewind are what the step leaves.
+// the record is passed without its path: whether it fits or not, table and rewind are what the step leaves. No index is lent: keys
+// can be chosen so that all have one hash, and then the walk along its links takes longer than the pass over all slots.
 pub(crate) fn put_path(
     journal: &[u8],
     records: &[usize],
@@ -29,8 +29,8 @@ pub(crate) fn put_path(
     requires { ⌜ 65536 ≤ length (now text) ⌝ }
     ensures { λ r. ⌜ PathPromise journal records rewind forward text r ⌝ }
 {
-    let mut heads = links();
-    let mut nexts = links();
+    let mut heads: [u64; 0] = [];
+    let mut nexts: [u64; 0] = [];
     let mut ends = [0u64; 1];
     let run = rewind_run(
         journal,
@@ -55,13 +55,6 @@ pub(crate) fn put_path(
     show(text, end);
     let next = run.rewind;
     Put { end, rewind: next }
-}
-
-// Words for one half of an index of a table with 1024 slots.
-fn links() -> [u64; 1024]
-    ensures { λ r. ⌜ 1024 ≡ length r ⌝ }
-{
-    [0; 1024]
 }
 
 // The next record goes into the forward table, and nothing is told of its path: what a step without text leaves.

@@ -1,6 +1,6 @@
 -- One after the other.
 use native.Mathlib.Omega.{arith}
-use Rattle.usn_lines.proofs.FieldLaws.{decimal-word}
+use Rattle.usn_fields.proofs.FieldLaws.{decimal-word}
 use Rattle.usn_lines.proofs.PartLaws.{last-puts}
 use borrow.Author.Needs.{needs}
 use Rattle.usn_lines.proofs.put_last_line.Statement.{statement}
