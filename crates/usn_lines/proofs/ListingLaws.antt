@@ -1,14 +1,16 @@
 -- The parts of a listing, one behind the other, are the listing, and it has a line for each record. Assumes nothing.
-use Prim.Native.Nat.{ℕ, zero, suc, _+_, _-_, _≤_, _<_}
+use Prim.Native.Nat.{ℕ, zero, suc, _+_, _-_, _*_, _≤_, _<_}
 use mathlib.Core.Path.{_≡_, refl, ap, sym, _∙_}
 use mathlib.Core.List.{List, [], _∷_, _++_, append-assoc, append-nil}
 use native.Mathlib.Omega.{arith}
 use borrow.Author.Tests.{ne-eqb, le-leb, lt-leb}
-use lib.ListN.{length}
+use lib.ListN.{length, take}
 use lib.Dec.{eqb, leb}
 use Rattle.walk.specs.Lists.{flatten}
 use Rattle.additions.specs.Walking.{recordsIn}
-use Rattle.usn_lines.specs.Listing.{Standing, header, lastLine, onward, line, lines, listingFrom, part, afterPart, parts, afterParts}
+use Rattle.usn_lines.specs.Promise.{Begins}
+use Rattle.usn_lines.specs.declared.Begun.{Begun}
+use Rattle.usn_lines.specs.Listing.{Standing, header, lastLine, onward, line, lines, listingFrom, part, afterPart, parts, afterParts, allParts, listOf, begins, noWords, listing, standing}
 
 abbrev all : List (List ℕ) → List ℕ
 all = flatten (λ l. l)
@@ -47,7 +49,7 @@ module _ (journal records : List ℕ) where
       ∙ sym (append-assoc (line journal records i s) (all (lines journal records (i + 1) m (onward journal records s))) (lastLine n))
 
   -- all parts: the header, the lines in their order and the last line
-  pub parts-make-listing : (s : Standing) → all (parts journal records 0 (n + 2) s) ≡ listingFrom journal records s
+  pub parts-make-listing : (s : Standing) → all (allParts journal records s) ≡ listingFrom journal records s
   unfolding parts part afterPart
   parts-make-listing s = let two : n + 2 ≡ suc (suc n) = omega arith in ap (λ (k : ℕ). all (parts journal records 0 k s)) two ∙ head-first s
     where
@@ -63,3 +65,13 @@ module _ (journal records : List ℕ) where
   pub parts-none : (k m : ℕ) (s : Standing) → m ≡ 0 → afterParts journal records k m s ≡ s
   unfolding afterParts
   parts-none k m s h = rw h refl
+
+-- so all parts of what `begin` promises are the listing of the journal
+pub begun-make-listing : (journal : List ℕ) {r : Begun} {list′ words′ : List ℕ} → Begins journal noWords noWords r list′ words′
+    → all (allParts journal (take (2 * r .records) list′) (standing words′ (r .rewind))) ≡ listing journal
+unfolding listing
+begun-make-listing journal {r} {list′} {words′} b =
+    let stands : standing words′ (r .rewind) ≡ begins journal (listOf journal) noWords noWords = λ i. record { words = b .forward i; rewind = b .state i } in
+    ap (λ (l : List ℕ). all (allParts journal l (standing words′ (r .rewind)))) (b .listed)
+    ∙ ap (λ (s : Standing). all (allParts journal (listOf journal) s)) stands
+    ∙ parts-make-listing journal (listOf journal) (begins journal (listOf journal) noWords noWords)

@@ -115,6 +115,16 @@ module _ (journal records : List ℕ) where
   afterParts k zero s = s
   afterParts k (suc n) s = afterParts (k + 1) n (afterPart k s)
 
+  -- as many parts as a listing has, all of them, and where it stands after them
+  abbrev pub partsOf : ℕ
+  partsOf = recordsIn records + 2
+
+  abbrev pub allParts : Standing → List (List ℕ)
+  allParts s = parts 0 partsOf s
+
+  abbrev pub afterAll : Standing → Standing
+  afterAll s = afterParts 0 partsOf s
+
 -- the records of a journal as the scan lists them
 unfoldable pub listOf : List ℕ → List ℕ
 listOf journal = flatten placeWords (scanned journal)
@@ -128,7 +138,7 @@ unfoldable pub begins : List ℕ → List ℕ → List ℕ → List ℕ → Stan
 begins journal records first words = standingAt words (started journal [] records (table first 0) words)
 
 -- the listing of a journal, with the words of two tables of 1024 slots, all zeros
-abbrev pub noWords : List ℕ
+unfoldable pub noWords : List ℕ
 noWords = replicate 7168 0
 
 unfoldable pub listing : List ℕ → List ℕ

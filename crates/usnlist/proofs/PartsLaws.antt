@@ -4,8 +4,9 @@ use mathlib.Core.Path.{_≡_, refl, ap, sym, _∙_}
 use mathlib.Core.List.{List}
 use native.Mathlib.Omega.{arith}
 use lib.ListN.{length}
+use Rattle.additions.specs.Walking.{recordsIn}
 use Rattle.rewind.specs.declared.Rewind.{Rewind}
-use Rattle.usn_lines.specs.Listing.{Standing, standing, part, afterPart, afterParts}
+use Rattle.usn_lines.specs.Listing.{Standing, standing, part, afterPart, afterParts, afterAll}
 use Rattle.usn_lines.specs.Promise.{Puts}
 use Rattle.usn_lines.specs.declared.Put.{Put}
 use Rattle.usn_lines.proofs.ListingLaws.{parts-next, parts-none}
@@ -39,6 +40,7 @@ module _ (journal records words₀ : List ℕ) (start : Rewind) (count : ℕ) wh
               ∙ g .left;
         }
 
-    pub going-end : count + 2 ≤ number → words ≡ whole .words
-    going-end h =
+    pub going-end : recordsIn records ≡ count → count + 2 ≤ number → words ≡ afterAll journal records (standing words₀ start) .words
+    going-end e h =
         ap (λ (s : Standing). s .words) (sym (parts-none journal records number (count + 2 - number) (standing words r) (omega (arith, h))) ∙ g .left)
+        ∙ ap (λ (k : ℕ). afterParts journal records 0 (k + 2) (standing words₀ start) .words) (sym e)

@@ -4,6 +4,7 @@ use mathlib.Core.Path.{_≡_, sym}
 use mathlib.Core.Bool.{false≢true}
 use native.Mathlib.Omega.{arith}
 use lib.ListN.{length, take, length-take}
+use Rattle.usn_lines.proofs.PartLaws.{records-taken}
 use borrow.Author.Needs.{needs}
 use Rattle.usnlist.proofs.PartsLaws.{Going, going-start, going-next, going-end}
 use Rattle.usnlist.proofs.write_parts.Statement.{statement}
@@ -59,7 +60,7 @@ same-length-2 : tie.Need-same-length-2 Inv-loop μ-loop
 same-length-2 c = c .before .loop .inv .0 .same
 
 returns-2 : tie.Need-returns-2 Inv-loop μ-loop
-returns-2 c = λ e. going-end (c .before .before .before .before .before .before .args .journal .now) _ (c .before .before .before .before .before .before .args .forward .now) (c .before .before .before .before .before .before .args .start) (c .before .before .before .before .before .before .args .count) (c .before .loop .inv .0) (omega (arith, c .loop-test .left))
+returns-2 c = λ e. going-end (c .before .before .before .before .before .before .args .journal .now) _ (c .before .before .before .before .before .before .args .forward .now) (c .before .before .before .before .before .before .args .start) (c .before .before .before .before .before .before .args .count) (c .before .loop .inv .0) (records-taken (c .before .before .before .before .before .before .args .list .now) (c .before .before .before .before .before .before .args .count) (c .before .before .before .before .before .before .pre)) (omega (arith, c .loop-test .left))
 
 pub write-parts-spec : {M : Type 1} → statement M
 write-parts-spec =
