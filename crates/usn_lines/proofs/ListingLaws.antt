@@ -1,13 +1,18 @@
--- The parts of a listing, one behind the other, are the listing, and it has a line for each record. Assumes nothing.
+-- The parts of a listing, one behind the other, are the listing, and it has a line for each record, with its numbers. Assumes nothing.
 use Prim.Native.Nat.{ℕ, zero, suc, _+_, _-_, _*_, _≤_, _<_}
 use mathlib.Core.Path.{_≡_, refl, ap, sym, _∙_}
 use mathlib.Core.List.{List, [], _∷_, _++_, append-assoc, append-nil}
 use native.Mathlib.Omega.{arith}
 use borrow.Author.Tests.{ne-eqb, le-leb, lt-leb}
 use lib.ListN.{length, take}
-use lib.Dec.{eqb, leb}
-use Rattle.walk.specs.Lists.{flatten}
-use Rattle.additions.specs.Walking.{recordsIn}
+use mathlib.Core.Bool.{true}
+use Rattle.walk.specs.Lists.{flatten, placeWords, All}
+use Rattle.walk.specs.Refusals.{domain}
+use Rattle.walk.specs.declared.Place.{Place}
+use Rattle.usn_record.specs.Record.{listed, isAnswered}
+use Rattle.usn_journal.specs.Scan.{scanned}
+use Rattle.usn_journal.proofs.ListedLaws.{Parses, scan-parses}
+use Rattle.additions.specs.Walking.{recordsIn, offsetIn}
 use Rattle.usn_lines.specs.Promise.{Begins}
 use Rattle.usn_lines.specs.declared.Begun.{Begun}
 use Rattle.usn_lines.specs.Listing.{Standing, header, lastLine, onward, line, lines, listingFrom, part, afterPart, parts, afterParts, allParts, listOf, begins, noWords, listing, standing}
@@ -75,3 +80,16 @@ begun-make-listing journal {r} {list′} {words′} b =
     ap (λ (l : List ℕ). all (allParts journal l (standing words′ (r .rewind)))) (b .listed)
     ∙ ap (λ (s : Standing). all (allParts journal (listOf journal) s)) stands
     ∙ parts-make-listing journal (listOf journal) (begins journal (listOf journal) noWords noWords)
+
+-- every line of a journal's listing has its record's numbers: at each listed offset stands a record
+listed-each : (journal : List ℕ) (ps : List Place) → All (Parses journal) ps → (i : ℕ) → i < length ps
+    → isAnswered (listed journal (offsetIn (flatten placeWords ps) i)) ≡ true
+listed-each journal [] h i k = absurd (omega (arith, k))
+listed-each journal (p ∷ ps) h zero k = rw (h .0) refl
+listed-each journal (p ∷ ps) h (suc i) k =
+    let two : suc i * 2 ≡ suc (suc (i * 2)) = omega arith in
+    rw two (listed-each journal ps (h .1) i (omega (arith, k)))
+
+pub numbers-each : (journal : List ℕ) → length journal ≤ domain → (i : ℕ) → i < length (scanned journal) → isAnswered (listed journal (offsetIn (listOf journal) i)) ≡ true
+unfolding listOf
+numbers-each journal h = listed-each journal (scanned journal) (scan-parses journal h)
