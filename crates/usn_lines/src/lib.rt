@@ -8,7 +8,7 @@
 // Every function here is proved, with the text that it writes.
 mod next_path;
 
-ghost use Prim.Native.Nat.{_+_, _*_, _≤_, _<_};
+ghost use Prim.Native.Nat.{_*_, _≤_, _<_};
 ghost use mathlib.Core.Path.{_≡_};
 ghost use lib.ListN.{length};
 ghost use lib.Seq.{sets};
@@ -26,9 +26,6 @@ use usn_record::listed_record;
 use utf16::decimal::put_decimal;
 use utf16::plain::put_byte;
 use utf16::plain::put_bytes;
-
-// Bytes that any part fits: the numbers of a line take at most 199, its path 65536, and its end 1.
-pub const PART: usize = 65736;
 
 // A listing that begins: how many records it has, and the rewind of them.
 pub struct Begun {
@@ -77,7 +74,8 @@ fn start(journal: &[u8], records: &[usize], first: &mut [u64], forward: &mut [u6
     }
 }
 
-// A part of the listing of the first so many records of a list, by its number, at the front of a text.
+// A part of the listing of the first so many records of a list, by its number, at the front of a text. Of a line, the longest part,
+// the numbers take at most 199 bytes, the path 65536, and the end 1.
 pub fn put_part(
     journal: &[u8],
     list: &[usize],

@@ -6,9 +6,8 @@
 //
 // Every function here is proved safe and to end, and `write_parts` to go through every part. No contract can say which bytes are
 // read and written: tests/usnlist holds that to the Rust original.
-ghost use Prim.Native.Nat.{_+_, _*_, _≤_};
+ghost use Prim.Native.Nat.{_*_, _≤_};
 ghost use mathlib.Core.Path.{_≡_};
-ghost use mathlib.Core.Bool.{true};
 ghost use lib.ListN.{length};
 ghost use Rattle.usnlist.specs.Promise.{WritePromise};
 use libc::STDERR_FILENO;
