@@ -3,11 +3,12 @@ use Prim.Native.Nat.{ℕ, _+_, _-_, _*_, _≤_, _<_}
 use mathlib.Core.Path.{_≡_, refl, ap, sym, _∙_}
 use mathlib.Core.List.{List}
 use native.Mathlib.Omega.{arith}
-use lib.ListN.{length}
+use lib.ListN.{length, take}
 use Rattle.additions.specs.Walking.{recordsIn}
 use Rattle.rewind.specs.declared.Rewind.{Rewind}
-use Rattle.usn_lines.specs.Listing.{Standing, standing, part, afterPart, afterParts, afterAll}
-use Rattle.usn_lines.specs.Promise.{Puts}
+use Rattle.usn_lines.specs.Listing.{Standing, standing, part, afterPart, afterParts, afterAll, listOf, begins}
+use Rattle.usn_lines.specs.Promise.{Puts, Begins}
+use Rattle.usn_lines.specs.declared.Begun.{Begun}
 use Rattle.usn_lines.specs.declared.Put.{Put}
 use Rattle.usn_lines.proofs.ListingLaws.{parts-next, parts-none}
 
@@ -44,3 +45,13 @@ module _ (journal records words₀ : List ℕ) (start : Rewind) (count : ℕ) wh
     going-end e h =
         ap (λ (s : Standing). s .words) (sym (parts-none journal records number (count + 2 - number) (standing words r) (omega (arith, h))) ∙ g .left)
         ∙ ap (λ (k : ℕ). afterParts journal records 0 (k + 2) (standing words₀ start) .words) (sym e)
+
+-- what begins and then goes through every part goes through the whole listing
+pub all-listed : (journal first words : List ℕ) {r : Begun} {list′ words′ words″ : List ℕ} → Begins journal first words r list′ words′
+    → words″ ≡ afterAll journal (take (2 * r .records) list′) (standing words′ (r .rewind)) .words
+    → words″ ≡ afterAll journal (listOf journal) (begins journal (listOf journal) first words) .words
+all-listed journal first words {r} {list′} {words′} {words″} b e =
+    let stands : standing words′ (r .rewind) ≡ begins journal (listOf journal) first words = λ i. record { words = b .forward i; rewind = b .state i } in
+    e
+    ∙ ap (λ (l : List ℕ). afterAll journal l (standing words′ (r .rewind)) .words) (b .listed)
+    ∙ ap (λ (s : Standing). afterAll journal (listOf journal) s .words) stands

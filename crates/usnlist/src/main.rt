@@ -4,12 +4,12 @@
 // parts are written one after the other. Standard error tells that the input is longer, that reading failed, and that writing
 // failed, after which nothing more is written.
 //
-// Every function here is proved safe and to end, and `write_parts` to go through every part. No contract can say which bytes are
-// read and written: tests/usnlist holds that to the Rust original.
+// Every function here is proved safe and to end, and `write_listing` to go through every part of the listing unless a write fails. No
+// contract can say which bytes are read and written: tests/usnlist holds that to the Rust original.
 ghost use Prim.Native.Nat.{_*_, _≤_};
 ghost use mathlib.Core.Path.{_≡_};
 ghost use lib.ListN.{length};
-ghost use Rattle.usnlist.specs.Promise.{WritePromise};
+ghost use Rattle.usnlist.specs.Promise.{ListPromise, WritePromise};
 use libc::STDERR_FILENO;
 use libc::STDIN_FILENO;
 use libc::STDOUT_FILENO;
@@ -60,7 +60,10 @@ fn main() {
         warn(b"usnlist: reading standard input failed\n");
     }
     let n = taken(input.bytes);
-    if !write_listing(&buffer[..n]) {
+    let mut list = list_words();
+    let mut first = table_words();
+    let mut forward = table_words();
+    if !write_listing(&buffer[..n], &mut list, &mut first, &mut forward) {
         warn(b"usnlist: writing standard output failed\n");
     }
 }
@@ -114,17 +117,15 @@ fn read_some(buffer: &mut [u8]) -> Input
     }
 }
 
-// The listing of a journal, and whether all of it was written.
-fn write_listing(journal: &[u8]) -> bool
-    requires { ⌜ length (now journal) ≤ 65536 ⌝ }
+// The listing of a journal, and whether all of it was written, with words for the list of its records and for two tables.
+fn write_listing(journal: &[u8], list: &mut [usize], first: &mut [u64], forward: &mut [u64]) -> bool
+    requires { ⌜ (length (now journal) ≤ 65536) × (length (now list) ≡ 2048) ⌝ }
+    ensures { λ r. ⌜ ListPromise journal first forward r ⌝ }
 {
-    let mut list = list_words();
-    let mut first = table_words();
-    let mut forward = table_words();
-    let begun = begin(journal, &mut list, &mut first, &mut forward);
+    let begun = begin(journal, list, first, forward);
     let records = begun.records;
     let rewind = begun.rewind;
-    write_parts(journal, &list, records, rewind, &mut forward)
+    write_parts(journal, list, records, rewind, forward)
 }
 
 // All parts of the listing of the first so many records of a list, and whether all of them were written.

@@ -23,14 +23,32 @@ warn-requires c κs = search needs
 taken-requires : tie.Need-taken-requires
 taken-requires c κs = search needs
 
+list-words-requires : tie.Need-list-words-requires
+list-words-requires c κs = search needs
+
+table-words-requires : tie.Need-table-words-requires
+table-words-requires c κs = search needs
+
+table-words-requires-2 : tie.Need-table-words-requires-2
+table-words-requires-2 c κs = search needs
+
 array-share-prefix-buffer : tie.Need-array-share-prefix-buffer
 array-share-prefix-buffer c = search needs
 
 slice-aggregate-write-listing : tie.Need-slice-aggregate-write-listing
-slice-aggregate-write-listing c = simp length-take (omega (arith, c .before .taken .ensures .0, c .before .before .before .before .read-input .ensures, c .before .before .before .buffer2 .given))
+slice-aggregate-write-listing c = simp length-take (omega (arith, c .before .before .before .before .taken .ensures .0, c .before .before .before .before .before .before .before .read-input .ensures, c .before .before .before .before .before .before .buffer2 .given))
+
+slice-aggregate-write-listing-2 : tie.Need-slice-aggregate-write-listing-2
+slice-aggregate-write-listing-2 c = search needs
+
+slice-aggregate-write-listing-3 : tie.Need-slice-aggregate-write-listing-3
+slice-aggregate-write-listing-3 c = search needs
+
+slice-aggregate-write-listing-4 : tie.Need-slice-aggregate-write-listing-4
+slice-aggregate-write-listing-4 c = search needs
 
 write-listing-requires : tie.Need-write-listing-requires
-write-listing-requires c κs = simp length-take (omega (arith, c .before .taken .ensures .1))
+write-listing-requires c κs = (simp length-take (omega (arith, c .before .before .before .before .before .before .before .taken .ensures .1)), omega (arith, c .before .before .before .before .before .before .list-words .ensures))
 
 slice-aggregate-warn-2 : tie.Need-slice-aggregate-warn-2
 slice-aggregate-warn-2 c = search needs
@@ -54,8 +72,14 @@ main-spec =
     slice-aggregate-warn
     warn-requires
     taken-requires
+    list-words-requires
+    table-words-requires
+    table-words-requires-2
     array-share-prefix-buffer
     slice-aggregate-write-listing
+    slice-aggregate-write-listing-2
+    slice-aggregate-write-listing-3
+    slice-aggregate-write-listing-4
     write-listing-requires
     slice-aggregate-warn-2
     warn-requires-2
