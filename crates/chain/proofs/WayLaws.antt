@@ -11,7 +11,9 @@ use mathlib.Core.Bool.{Bool, true, false, cond}
 use lib.ListN.{length, length-append, length-set, getD, set}
 use lib.Seq.{getD-set-same, getD-set-other}
 use Rattle.entry_slots.specs.Slots.{stride, nameAt, infoAt}
-use Rattle.entry_slots.specs.Table.{Table, find}
+use Rattle.entry_slots.specs.Index.{Indexed}
+use Rattle.entry_slots.specs.Table.{Table, table, find}
+use Rattle.entry_slots.proofs.IndexLaws.{none-indexed}
 use Rattle.entry_slots.specs.declared.EntryKey.{EntryKey}
 use Rattle.entry_slots.specs.declared.EntryInfo.{EntryInfo}
 use Rattle.entry_slots.specs.declared.NamePlace.{NamePlace}
@@ -231,3 +233,8 @@ module _ (t : Table) (k : EntryKey) {r : Climbed} {way′ : List ℕ} (g : Climb
 
   pub climbed-slots : t .used * stride ≤ length (t .words) → Slots (t .words) way′ (r .names)
   climbed-slots fits = below-slots fits (g .below)
+
+-- what the way up asks, with no index, and whatever else
+pub none-climbs : (s : List ℕ) (used : ℕ) {Else : Type 0} → used * stride ≤ length s → Else
+    → ((used * stride ≤ length s) × (0 < length {A = ℕ} [] → used ≤ length {A = ℕ} [])) × (Indexed (table s used) [] [] × Else)
+none-climbs s used fits more = let none = none-indexed s [] [] used fits (omega arith) in (none .0, (none .1, more))

@@ -1,5 +1,1 @@
-pub mod FieldLaws
-pub mod SignLaws
-pub mod NumberLaws
-pub mod ShownLaws
-pub mod StepLaws
+pub mod PartsLaws

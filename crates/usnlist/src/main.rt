@@ -1,162 +1,155 @@
 // Lists a change journal: a line for each record, with its numbers and the path that its file had when it was written.
 //
-// Standard input is the journal, of which the first 65536 bytes are taken. They are scanned for records, and these are rewound
-// from an empty table. Standard output is a header, the lines, and a last line that counts the records. A path's bytes below
-// 20h are shown as `?`, and so is, once, a path above 65536 bytes.
+// Standard input is the journal, of which the first 65536 bytes are taken. Standard output is the listing of `usn_lines`, whose
+// parts are written one after the other. Standard error tells that the input is longer, that reading failed, and that writing
+// failed, after which nothing more is written.
 //
-// Every function here is proved safe and to end. Those of `fields` and `shown` are proved to put the right bytes, and write_path
-// to go on as the library's step does. No contract can say what is written: tests/usnlist holds that to the Rust original.
-mod fields;
-mod shown;
-
+// Every function here is proved safe and to end, and `write_listing` to go through every part of the listing unless a write fails. No
+// contract can say which bytes are read and written: tests/usnlist holds that to the Rust original.
+ghost use Prim.Native.Nat.{_*_, _≤_};
 ghost use mathlib.Core.Path.{_≡_};
-ghost use mathlib.Core.List.{[]};
-ghost use Rattle.rewind.specs.Stepping.{stepped, rewindAfter, wordsAfter};
-use crate::fields::put_numbers;
-use crate::shown::show;
+ghost use lib.ListN.{length};
+ghost use Rattle.usnlist.specs.Promise.{ListPromise, WritePromise};
+use libc::STDERR_FILENO;
 use libc::STDIN_FILENO;
 use libc::STDOUT_FILENO;
-use rewind::NextPath;
 use rewind::Rewind;
-use rewind::Started;
-use rewind::rewind_next;
-use rewind::rewind_next_chain;
-use rewind::rewind_start;
-use usn_journal::Scanned;
-use usn_journal::parse_usn_journal;
-use usn_record::Parsed;
-use usn_record::listed_record;
-use walk::TEXT_FULL;
+use usn_lines::begin;
+use usn_lines::put_part;
+
+// The bytes of the input that are taken.
+const TAKEN: usize = 65536;
+
+// What was read: how many bytes, and whether a read failed after them.
+struct Input {
+    bytes: usize,
+    failed: bool,
+}
+
+// Room for the input, and for one byte more, which tells that it is longer.
+fn room() -> [u8; 65537]
+    ensures { λ r. ⌜ 65537 ≡ length r ⌝ }
+{
+    [0; 65537]
+}
+
+// Room for a part of the listing.
+fn part() -> [u8; 65736]
+    ensures { λ r. ⌜ 65736 ≡ length r ⌝ }
+{
+    [0; 65736]
+}
+
+// Room for a list of 1024 records, two words each, and for a table of 1024 keys, seven words each.
+fn list_words() -> [usize; 2048]
+    ensures { λ r. ⌜ 2048 ≡ length r ⌝ }
+{
+    [0; 2048]
+}
+
+fn table_words() -> [u64; 7168]
+    ensures { λ r. ⌜ 7168 ≡ length r ⌝ }
+{
+    [0; 7168]
+}
 
 fn main() {
-    let mut buffer = io::large_buffer();
-    let n = io::read_full(STDIN_FILENO, &mut buffer);
-    io::write_all(
-        STDOUT_FILENO,
-        b"offset version entry sequence parent parent-sequence usn seconds nanoseconds reason path\n",
-    );
-    list_journal(&buffer[..n]);
-}
-
-// The lines of a journal's records, and the last line. A record takes at least 64 bytes, so that 65536 bytes have at most 1024,
-// for each of which the list has two words: there is always room for them.
-fn list_journal(journal: &[u8]) {
-    let mut list = [0usize; 2048];
-    match parse_usn_journal(journal, &mut list) {
-        Scanned::Refused(n) => write_refused(n),
-        Scanned::Records(n) => {
-            list_first(journal, &list, n);
-            io::write_all(STDOUT_FILENO, b"records ");
-            io::print_decimal(STDOUT_FILENO, n as u64);
-            io::write_all(STDOUT_FILENO, b"\n");
-        }
+    let mut buffer = room();
+    let input = read_input(&mut buffer);
+    if input.failed {
+        warn(b"usnlist: reading standard input failed\n");
+    }
+    let n = taken(input.bytes);
+    let mut list = list_words();
+    let mut first = table_words();
+    let mut forward = table_words();
+    if !write_listing(&buffer[..n], &mut list, &mut first, &mut forward) {
+        warn(b"usnlist: writing standard output failed\n");
     }
 }
 
-// The lines of the first n records of a list.
-fn list_first(journal: &[u8], list: &[usize], n: usize) {
-    if list.len() / 2 < n {
-        return;
-    }
-    let end = 2 * n;
-    list_records(journal, &list[..end]);
-}
-
-// The lines of all listed records. The tables have a slot, seven words, for each of 1024 keys, and both begin empty.
-fn list_records(journal: &[u8], records: &[usize]) {
-    let mut first = [0u64; 7168];
-    let mut forward = [0u64; 7168];
-    match rewind_start(journal, b"", records, &mut first, 0, &mut forward) {
-        Started::Refused(n) => write_refused(n),
-        Started::Begun(rewind) => list_from(journal, records, rewind, &mut forward),
-    }
-}
-
-// The lines of the records, in order, from the start of a rewind on.
-fn list_from(journal: &[u8], records: &[usize], start: Rewind, forward: &mut [u64]) {
-    let mut rewind = start;
-    let mut i: usize = 0;
-    while i < records.len() / 2 {
-        rewind = write_line(journal, records, records[2 * i], rewind, forward);
-        i += 1;
-    }
-}
-
-// The line of the next record, which is at this offset, and the rewind after it.
-fn write_line(
-    journal: &[u8],
-    records: &[usize],
-    offset: usize,
-    rewind: Rewind,
-    forward: &mut [u64],
-) -> Rewind {
-    write_numbers(journal, offset);
-    let next = write_path(journal, records, rewind, forward);
-    io::write_all(STDOUT_FILENO, b"\n");
-    next
-}
-
-// The numbers of the record at an offset, a space after each.
-fn write_numbers(journal: &[u8], offset: usize) {
-    match listed_record(journal, offset) {
-        Parsed::Refused(n) => write_refused(n),
-        Parsed::Record(record) => {
-            let mut line = [0u8; 199];
-            let n = put_numbers(&mut line, offset, record);
-            io::write_all(STDOUT_FILENO, &line[..n]);
-        }
-    }
-}
-
-// The path of the next record, and the rewind after it. A path that does not fit the text is shown as one `?`, and the record is
-// passed without text: whether it fits or not, table and rewind are what the step leaves.
-fn write_path(journal: &[u8], records: &[usize], rewind: Rewind, forward: &mut [u64]) -> Rewind
-    ensures { λ r. ⌜ r ≡ rewindAfter (stepped (now (journal .entry)) [] (now (records .entry)) (now (forward .entry)) rewind) rewind ⌝ }
-    ensures { λ _. ⌜ now (forward .exit) ≡ wordsAfter (stepped (now (journal .entry)) [] (now (records .entry)) (now (forward .entry)) rewind) (now (forward .entry)) ⌝ }
+// How many bytes are taken of so many, and on standard error that this is not all of them.
+fn taken(bytes: usize) -> usize
+    ensures { λ r. ⌜ r ≤ bytes ⌝ }
+    ensures { λ r. ⌜ r ≤ 65536 ⌝ }
 {
-    let mut text = io::large_buffer();
-    let mut chain = [0u64; 0];
-    let step = rewind_next(
-        journal,
-        b"",
-        records,
-        rewind,
-        forward,
-        &mut chain,
-        &mut text,
-    );
-    let next = step.next;
-    match next {
-        NextPath::Record { path: _, text: n } => {
-            write_shown(&mut text, n);
-            step.rewind
+    if TAKEN < bytes {
+        warn(b"usnlist: the input is longer than 65536 bytes, and the rest of it is not listed\n");
+        return TAKEN;
+    }
+    bytes
+}
+
+// A line on standard error.
+fn warn(line: &[u8]) {
+    io::write_all(STDERR_FILENO, line);
+}
+
+// Reads until the buffer is full, the input ends or a read fails.
+fn read_input(buffer: &mut [u8]) -> Input
+    ensures { λ r. ⌜ r .bytes ≤ length (now (buffer .entry)) ⌝ }
+{
+    let mut n: usize = 0;
+    while n < buffer.len() {
+        let more = read_some(&mut buffer[n..]);
+        if more.bytes == 0 {
+            return Input {
+                bytes: n,
+                failed: more.failed,
+            };
         }
-        NextPath::End => step.rewind,
-        NextPath::Refused(n) => {
-            if n == TEXT_FULL {
-                io::write_all(STDOUT_FILENO, b"?");
-                let passed = rewind_next_chain(journal, b"", records, rewind, forward, &mut chain);
-                passed.rewind
-            } else {
-                write_refused(n);
-                step.rewind
-            }
-        }
+        n += more.bytes;
+    }
+    Input {
+        bytes: n,
+        failed: false,
     }
 }
 
-// The first n bytes of a text, as they are shown.
-fn write_shown(text: &mut [u8], n: usize) {
-    if text.len() < n {
-        return;
+// One read: no bytes where it fails, and at the end of the input.
+fn read_some(buffer: &mut [u8]) -> Input
+    ensures { λ r. ⌜ r .bytes ≤ length (now (buffer .entry)) ⌝ }
+{
+    let got = libc::read(STDIN_FILENO, buffer);
+    Input {
+        bytes: io::count(got, buffer),
+        failed: got < 0,
     }
-    show(text, n);
-    io::write_all(STDOUT_FILENO, &text[..n]);
 }
 
-// What no journal of 65536 bytes comes to: the library refuses.
-fn write_refused(n: u32) {
-    io::write_all(STDOUT_FILENO, b"refused ");
-    io::print_decimal(STDOUT_FILENO, n as u64);
-    io::write_all(STDOUT_FILENO, b"\n");
+// The listing of a journal, and whether all of it was written, with words for the list of its records and for two tables.
+fn write_listing(journal: &[u8], list: &mut [usize], first: &mut [u64], forward: &mut [u64]) -> bool
+    requires { ⌜ (length (now journal) ≤ 65536) × (length (now list) ≡ 2048) ⌝ }
+    ensures { λ r. ⌜ ListPromise journal first forward r ⌝ }
+{
+    let begun = begin(journal, list, first, forward);
+    let records = begun.records;
+    let rewind = begun.rewind;
+    write_parts(journal, list, records, rewind, forward)
+}
+
+// All parts of the listing of the first so many records of a list, and whether all of them were written.
+fn write_parts(
+    journal: &[u8],
+    list: &[usize],
+    count: usize,
+    start: Rewind,
+    forward: &mut [u64],
+) -> bool
+    requires { ⌜ 2 * count ≤ length (now list) ⌝ }
+    ensures { λ r. ⌜ WritePromise journal list count start forward r ⌝ }
+{
+    let mut text = part();
+    let mut rewind = start;
+    let mut number: usize = 0;
+    while number < count + 2 {
+        let put = put_part(journal, list, count, number, rewind, forward, &mut text);
+        let end = put.end;
+        if !io::write_all(STDOUT_FILENO, &text[..end]) {
+            return false;
+        }
+        rewind = put.rewind;
+        number += 1;
+    }
+    true
 }

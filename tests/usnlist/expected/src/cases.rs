@@ -10,6 +10,7 @@ const FILE: Key = Key(42, 3);
 pub fn all() -> Vec<(&'static str, Vec<u8>)> {
     vec![
         ("e", journal(&[e()])),
+        ("gate", gate()),
         ("rename", rename()),
         ("empty", Vec::new()),
         ("zeros", vec![0; 1000]),
@@ -36,6 +37,24 @@ pub fn all() -> Vec<(&'static str, Vec<u8>)> {
 /// The scope's sample record.
 fn e() -> Record {
     record(FILE, ROOT, CREATE, "ab")
+}
+
+/// What the merge gate lists: E, the renamed file, both versions, a control character, a path too long to show, and words that are
+/// no records between them.
+fn gate() -> Vec<u8> {
+    let mut bytes = journal(&[e()]);
+    bytes.extend([0; 40]);
+    append(&mut bytes, &rename());
+    bytes.extend([48, 0, 0, 0, 9, 0, 0, 0]);
+    append(&mut bytes, &journal(&[
+        record(Key(100, 0), ROOT, CREATE, "folder").version_3(),
+        record(Key(101, 7), Key(100, 0), CLOSE, "in\u{1F}it").usn(-1),
+        record(Key(9, 1), Key(9, 1), CREATE, &"\u{2022}".repeat(86)),
+        record(Key(102, 1), Key(9, 1), CREATE, "not shown"),
+        record(Key(9, 1), ROOT, NEW_NAME, "short"),
+        record(Key(102, 1), Key(9, 1), CLOSE, "shown"),
+    ]));
+    bytes
 }
 
 /// The scope's second example of a rewind.

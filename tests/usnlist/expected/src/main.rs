@@ -19,21 +19,25 @@ mod journals;
 mod listing;
 mod record;
 mod sample;
+mod slow;
 
 include!(concat!(env!("OUT_DIR"), "/original.rs"));
 
 use std::fs::{self, File};
 use std::io;
 use std::path::Path;
-use std::process::{Command, ExitCode, Stdio};
+use std::process::{Command, ExitCode};
 
-const USAGE: &str = "usage: expected write CASES SAMPLES\n       expected random PROGRAM WORK SEED COUNT";
+const USAGE: &str = "usage: expected write CASES SAMPLES SLOW\n       expected random PROGRAM WORK SEED COUNT";
+
+/// What the program says on standard error of an input that it does not list to its end.
+const LONGER: &str = "usnlist: the input is longer than 65536 bytes, and the rest of it is not listed\n";
 
 fn main() -> ExitCode {
     let words: Vec<String> = std::env::args().skip(1).collect();
     let words: Vec<&str> = words.iter().map(String::as_str).collect();
     let done = match words[..] {
-        ["write", cases, samples] => write(Path::new(cases), Path::new(samples)),
+        ["write", cases, samples, slow] => write(Path::new(cases), Path::new(samples), Path::new(slow)),
         ["random", program, work, seed, count] => match (seed.parse(), count.parse()) {
             (Ok(seed), Ok(count)) => compare(program, Path::new(work), seed, count),
             _ => return usage(),
@@ -54,13 +58,15 @@ fn usage() -> ExitCode {
     ExitCode::from(2)
 }
 
-/// Every case as NAME.in and NAME.out, and the sample as journal.bin and journal.txt.
-fn write(cases: &Path, samples: &Path) -> io::Result<()> {
-    fs::create_dir_all(cases)?;
+/// Every case and every slow journal as NAME.in and NAME.out, and the sample as journal.bin and journal.txt.
+fn write(cases: &Path, samples: &Path, slow: &Path) -> io::Result<()> {
     fs::create_dir_all(samples)?;
-    for (name, journal) in cases::all() {
-        fs::write(cases.join(format!("{name}.in")), &journal)?;
-        fs::write(cases.join(format!("{name}.out")), listing::of(&journal))?;
+    for (folder, journals) in [(cases, cases::all()), (slow, slow::all())] {
+        fs::create_dir_all(folder)?;
+        for (name, journal) in journals {
+            fs::write(folder.join(format!("{name}.in")), &journal)?;
+            fs::write(folder.join(format!("{name}.out")), listing::of(&journal))?;
+        }
     }
     let journal = sample::journal();
     fs::write(samples.join("journal.bin"), &journal)?;
@@ -79,15 +85,13 @@ fn compare(program: &str, work: &Path, seed: u64, count: u64) -> io::Result<()> 
         let journal = journals::random(seed, case);
         fs::write(&file, &journal)?;
         let expected = listing::of(&journal);
-        let output = Command::new(program)
-            .stdin(File::open(&file)?)
-            .stderr(Stdio::inherit())
-            .output()?;
-        if output.stdout != expected {
+        let output = Command::new(program).stdin(File::open(&file)?).output()?;
+        let said = if journal.len() > listing::BYTES { LONGER } else { "" };
+        if output.stdout != expected || output.stderr != said.as_bytes() {
             fs::write(work.join("random.out"), &output.stdout)?;
             fs::write(work.join("random.expected"), &expected)?;
             let message = format!(
-                "seed {seed}, journal {case}: the listings differ, see random.* in {}",
+                "seed {seed}, journal {case}: the listings differ, or what is said on standard error: see random.* in {}",
                 work.display()
             );
             return Err(io::Error::other(message));

@@ -1,10 +1,8 @@
 -- The whole way of the key, and then the places of its names.
 use mathlib.Core.Path.{ap, _∙_}
-use mathlib.Core.List.{[]}
 use native.Mathlib.Omega.{arith}
-use Rattle.entry_slots.proofs.IndexLaws.{none-indexed}
 use Rattle.chain.specs.Tracing.{listed}
-use Rattle.chain.proofs.WayLaws.{climbed-resolved, climbed-places, climbed-slots}
+use Rattle.chain.proofs.WayLaws.{none-climbs, climbed-resolved, climbed-places, climbed-slots}
 use borrow.Author.Needs.{needs}
 use Rattle.chain.proofs.way.list_chain.Statement.{statement}
 use Rattle.chain.proofs.way.list_chain.Tie as tie
@@ -16,13 +14,13 @@ slice-aggregate-climb : tie.Need-slice-aggregate-climb
 slice-aggregate-climb c = search needs
 
 climb-requires : tie.Need-climb-requires
-climb-requires c κs = let none = none-indexed (c .before .before .before .before .args .slots .now) [] [] (c .before .before .before .before .args .used) (omega arith) (omega arith) in (none .0, (none .1, omega arith))
+climb-requires c κs = none-climbs _ _ (omega arith) (omega arith)
 
 slice-aggregate-list-places : tie.Need-slice-aggregate-list-places
 slice-aggregate-list-places c = search needs
 
 list-places-requires : tie.Need-list-places-requires
-list-places-requires c κs = climbed-slots _ _ (c .before .before .before .climb .ensures) (c .before .before .before .before .before .before .before .before .pre)
+list-places-requires c κs = climbed-slots _ _ (c .before .before .before .climb .ensures) (omega arith)
 
 resolved-requires : tie.Need-resolved-requires
 resolved-requires c κs = search needs

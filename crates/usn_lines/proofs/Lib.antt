@@ -1,0 +1,4 @@
+pub mod PassLaws
+pub mod PathLaws
+pub mod PartLaws
+pub mod ListingLaws

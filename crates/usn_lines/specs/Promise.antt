@@ -1,0 +1,68 @@
+-- What the functions promise that write parts of a listing. A record says it of lists: what the lent slices hold before, and, with ′, after. The promise itself
+-- takes the call's parameters.
+use Prim.Native.Nat.{ℕ, _*_, _≤_}
+use mathlib.Core.Path.{_≡_}
+use mathlib.Core.List.{List, []}
+use lib.ListN.{length, take}
+use lib.Seq.{sets}
+use Rattle.walk.specs.Lent.{Lent, before, after}
+use Rattle.usn_journal.specs.Scan.{scanned}
+use Rattle.rewind.specs.declared.Rewind.{Rewind}
+use Rattle.usn_lines.specs.Listing.{Standing, standing, mostPath, onward, pathOf, line, part, afterPart, listOf, begins}
+use Rattle.usn_lines.specs.declared.Begun.{Begun}
+use Rattle.usn_lines.specs.declared.Put.{Put}
+
+-- so many bytes are enough for any part
+abbrev pub mostPart : ℕ
+mostPart = 65736
+
+-- a text vs at the front of a lent one, no longer than most, and where the listing stands after it
+pub record Puts (text vs : List ℕ) (most : ℕ) (s : Standing) (r : Put) (words′ text′ : List ℕ) : Type 0 where
+  pub end-is : r .end ≡ length vs
+  pub written : text′ ≡ sets text 0 vs
+  pub fits : r .end ≤ most
+  pub state : r .rewind ≡ s .rewind
+  pub forward : words′ ≡ s .words
+
+-- the rewind after the next record alone
+pub record Passes (s : Standing) (r : Rewind) (words′ : List ℕ) : Type 0 where
+  pub state : r ≡ s .rewind
+  pub forward : words′ ≡ s .words
+
+abbrev pub PassPromise : Lent → Lent → Rewind → Lent → Rewind → Type 0
+PassPromise journal records rewind forward r =
+    Passes (onward (before journal) (before records) (standing (before forward) rewind)) r (after forward)
+
+-- the next record's path
+abbrev pub PathPromise : Lent → Lent → Rewind → Lent → Lent → Put → Type 0
+PathPromise journal records rewind forward text r =
+    let s = standing (before forward) rewind in
+    Puts (before text) (pathOf (before journal) (before records) s) mostPath (onward (before journal) (before records) s) r (after forward) (after text)
+
+-- its line
+abbrev pub LinePromise : Lent → Lent → ℕ → Rewind → Lent → Lent → Put → Type 0
+LinePromise journal records number rewind forward text r =
+    let s = standing (before forward) rewind in
+    Puts (before text) (line (before journal) (before records) number s) mostPart (onward (before journal) (before records) s) r (after forward) (after text)
+
+-- a part of the listing of the first so many records of a list
+abbrev pub PartPromise : Lent → Lent → ℕ → ℕ → Rewind → Lent → Lent → Put → Type 0
+PartPromise journal list count number rewind forward text r =
+    let s = standing (before forward) rewind in
+    let records = take (2 * count) (before list) in
+    Puts (before text) (part (before journal) records number s) mostPart (afterPart (before journal) records number s) r (after forward) (after text)
+
+-- the start of the rewind
+abbrev pub StartPromise : Lent → Lent → Lent → Lent → Rewind → Type 0
+StartPromise journal records first forward r = Passes (begins (before journal) (before records) (before first) (before forward)) r (after forward)
+
+-- where a listing begins: how many records there are, the list of them, and the start of their rewind
+pub record Begins (journal words₀ words : List ℕ) (r : Begun) (list′ words′ : List ℕ) : Type 0 where
+  pub count : r .records ≡ length (scanned journal)
+  pub listed : take (2 * r .records) list′ ≡ listOf journal
+  pub inside : 2 * r .records ≤ length list′
+  pub state : r .rewind ≡ begins journal (listOf journal) words₀ words .rewind
+  pub forward : words′ ≡ begins journal (listOf journal) words₀ words .words
+
+abbrev pub BeginPromise : Lent → Lent → Lent → Lent → Begun → Type 0
+BeginPromise journal list first forward r = Begins (before journal) (before first) (before forward) r (after list) (after forward)

@@ -1,0 +1,81 @@
+// The path of the next record into a text, as it is shown.
+ghost use Prim.Native.Nat.{_≤_};
+ghost use lib.ListN.{length};
+ghost use Rattle.usn_lines.specs.Promise.{PassPromise, PathPromise};
+use crate::Put;
+use additions::entries::replaces_forward;
+use entry_table::Stored;
+use entry_table::adding::add;
+use rewind::Rewind;
+use rewind_records::turn::Turn;
+use rewind_records::turn::next_record;
+use rewind_run::rewind_run;
+use usn_fields::shown::show;
+use utf16::plain::put_byte;
+
+// The most bytes of a path that is shown.
+const MOST_PATH: usize = 65536;
+
+// The next record's path, as it is shown, at the front of a text, and the rewind after it. A path that does not fit is one `?`, and
+// the record is passed without its path: whether it fits or not, table and rewind are what the step leaves. No index is lent: keys
+// can be chosen so that all have one hash, and then the walk along its links takes longer than the pass over all slots.
+pub(crate) fn put_path(
+    journal: &[u8],
+    records: &[usize],
+    rewind: Rewind,
+    forward: &mut [u64],
+    text: &mut [u8],
+) -> Put
+    requires { ⌜ 65536 ≤ length (now text) ⌝ }
+    ensures { λ r. ⌜ PathPromise journal records rewind forward text r ⌝ }
+{
+    let mut heads: [u64; 0] = [];
+    let mut nexts: [u64; 0] = [];
+    let mut ends = [0u64; 1];
+    let run = rewind_run(
+        journal,
+        b"",
+        records,
+        rewind,
+        forward,
+        &mut heads,
+        &mut nexts,
+        &mut ends,
+        &mut text[..MOST_PATH],
+    );
+    if run.steps == 0 {
+        let end = put_byte(text, 0, b'?');
+        let passed = pass_record(journal, records, rewind, forward);
+        return Put {
+            end,
+            rewind: passed,
+        };
+    }
+    let end = ends[0] as usize;
+    show(text, end);
+    let next = run.rewind;
+    Put { end, rewind: next }
+}
+
+// The next record goes into the forward table, and nothing is told of its path: what a step without text leaves.
+fn pass_record(journal: &[u8], records: &[usize], rewind: Rewind, forward: &mut [u64]) -> Rewind
+    ensures { λ r. ⌜ PassPromise journal records rewind forward r ⌝ }
+{
+    match next_record(journal, 0, records, forward, rewind.used, rewind.position) {
+        Turn::Refused(_) => rewind,
+        Turn::End => rewind,
+        Turn::Entry(entry) => match add(
+            forward,
+            rewind.used,
+            entry.key,
+            entry.info,
+            replaces_forward(entry),
+        ) {
+            Stored::Refused(_) => rewind,
+            Stored::Used(used) => Rewind {
+                used,
+                position: rewind.position + 1,
+            },
+        },
+    }
+}
