@@ -1,8 +1,8 @@
 -- Every case of the table holds: the checker computes one test over all of them but the deep paths, which have laws, and one law turns it into
--- each. And the table has the rows of P1 to P10, so many of each. Assumes nothing.
+-- each. And the rows of P1 to P10 in it are those of the scope. Assumes nothing.
 use Prim.Native.Nat.{ℕ, zero, suc}
 use mathlib.Core.Path.{_≡_, refl, sym, ap, _∙_}
-use mathlib.Core.List.{List, [], _∷_, _++_, map, List·Memᴰ, List·Memᴰ·head, List·Memᴰ·tail, List·Memᴰ·not-nil}
+use mathlib.Core.List.{List, [], _∷_, _++_, List·Memᴰ, List·Memᴰ·head, List·Memᴰ·tail, List·Memᴰ·not-nil}
 use mathlib.Core.Bool.{Bool, true, false, true≢false, _&&_}
 use lib.Dec.{eqb}
 use borrow.Author.Tests.{eqb-true}
@@ -28,6 +28,7 @@ use Rattle.utf16.specs.Utf16.{alone, codePoints}
 use Rattle.utf16.specs.Utf8.{utf8}
 use Rattle.utf16.specs.Text.{decoded}
 use Rattle.known.specs.Case.{Case, same, right, rowsOf}
+use Rattle.known.specs.Scope.{scopeRows}
 use Rattle.path.specs.Sample.{timesA}
 use Rattle.path.proofs.Examples.{loops}
 use Rattle.path.proofs.NestedLaws.{nested-256, nested-257}
@@ -80,6 +81,6 @@ deep = (
 pub known : (c : Case) → List·Memᴰ c cases → Holds c
 known = member cases (all-append Holds computedCases depths (all-right computedCases computed) deep)
 
--- the rows of P1 to P10
-pub complete : map (rowsOf cases) (1 ∷ 2 ∷ 3 ∷ 4 ∷ 5 ∷ 6 ∷ 7 ∷ 8 ∷ 9 ∷ 10 ∷ []) ≡ 5 ∷ 3 ∷ 5 ∷ 2 ∷ 4 ∷ 5 ∷ 2 ∷ 4 ∷ 3 ∷ 2 ∷ []
+-- the rows of P1 to P10: what each is given, and what is known of it
+pub complete : rowsOf cases ≡ scopeRows
 complete = refl

@@ -10,24 +10,27 @@ use Rattle.known.specs.Case.{Case}
 use Rattle.known.specs.Bytes.{le, entryHeader, named, others, last, padded, entryOf}
 
 -- the counters of image carving: bytes, candidates, carved, rejected
-abbrev pub carveCounts : ℕ → List ℕ → List ℕ → Case
-carveCounts of s known = record { of = of; says = statsWords (statsIn standard s); known = known }
+abbrev pub carveCounts : ℕ → List ℕ → List ℕ → List ℕ → Case
+carveCounts of given s known = record { of = of; given = given; says = statsWords (statsIn standard s); known = known }
 
 -- the words of the entries that are carved
-abbrev pub carvedAs : ℕ → List ℕ → List ℕ → Case
-carvedAs of s known = record { of = of; says = flatten entryWords (entriesIn standard s); known = known }
+abbrev pub carvedAs : ℕ → List ℕ → List ℕ → List ℕ → Case
+carvedAs of given s known = record { of = of; given = given; says = flatten entryWords (entriesIn standard s); known = known }
 
 -- an entry of sequence 3 whose first attribute is said to be at first, and whose bytes from 44 on are these
 abbrev pub firstAt : ℕ → List ℕ → List ℕ
 firstAt first from44 = padded (entryHeader 3 first ++ from44)
 
 -- P7: a first attribute at 47 is rejected, though an attribute with a name stands there; at 48 it is carved; at 1016 it is rejected, also after a
--- name at 48
+-- name at 48. The number of the entry takes the bytes from 44 up to the name.
+abbrev pub begins : ℕ → ℕ → ℕ → List ℕ → Case
+begins of first width known = carveCounts of (first ∷ []) (firstAt first (le width 42 ++ named 1 ++ last)) known
+
 abbrev pub firstAttributes : List Case
 firstAttributes =
-    carveCounts 7 (firstAt 47 (le 3 42 ++ named 1 ++ last)) (1024 ∷ 1 ∷ 0 ∷ 1 ∷ [])
-    ∷ carveCounts 0 (firstAt 48 (le 4 42 ++ named 1 ++ last)) (1024 ∷ 1 ∷ 1 ∷ 0 ∷ [])
-    ∷ carveCounts 7 (firstAt 1016 (le 4 42 ++ named 1 ++ last)) (1024 ∷ 1 ∷ 0 ∷ 1 ∷ [])
+    begins 7 47 3 (1024 ∷ 1 ∷ 0 ∷ 1 ∷ [])
+    ∷ begins 0 48 4 (1024 ∷ 1 ∷ 1 ∷ 0 ∷ [])
+    ∷ begins 7 1016 4 (1024 ∷ 1 ∷ 0 ∷ 1 ∷ [])
     ∷ []
 
 -- the entry whose name begins at an offset: number 42, sequence 3, six bytes, parent 5:5, a directory in use
@@ -39,25 +42,31 @@ abbrev pub both : ℕ → ℕ → List ℕ
 both one two = entryOf (named one ++ named two)
 
 -- P8: of two names one is kept
+abbrev pub ofBoth : ℕ → ℕ → List ℕ → Case
+ofBoth one two known = carvedAs 8 (one ∷ two ∷ []) (both one two) known
+
 abbrev pub namespaces : List Case
 namespaces =
-    carvedAs 8 (both 2 3) (keeps 234)
-    ∷ carvedAs 8 (both 1 3) (keeps 138)
-    ∷ carvedAs 8 (both 0 2) (keeps 138)
-    ∷ carvedAs 8 (both 0 0) (keeps 234)
+    ofBoth 2 3 (keeps 234)
+    ∷ ofBoth 1 3 (keeps 138)
+    ∷ ofBoth 0 2 (keeps 138)
+    ∷ ofBoth 0 0 (keeps 234)
     ∷ []
 
 -- 1023 bytes of an entry, and a name in the 21st attribute
 abbrev pub unseen : List Case
 unseen =
-    carveCounts 0 (take 1023 (entryOf (named 1))) (1023 ∷ 0 ∷ 0 ∷ 0 ∷ [])
-    ∷ carveCounts 0 (entryOf (others 19 ++ named 1)) (1024 ∷ 1 ∷ 1 ∷ 0 ∷ [])
-    ∷ carveCounts 0 (entryOf (others 20 ++ named 1)) (1024 ∷ 1 ∷ 0 ∷ 1 ∷ [])
+    carveCounts 0 [] (take 1023 (entryOf (named 1))) (1023 ∷ 0 ∷ 0 ∷ 0 ∷ [])
+    ∷ carveCounts 0 [] (entryOf (others 19 ++ named 1)) (1024 ∷ 1 ∷ 1 ∷ 0 ∷ [])
+    ∷ carveCounts 0 [] (entryOf (others 20 ++ named 1)) (1024 ∷ 1 ∷ 0 ∷ 1 ∷ [])
     ∷ []
 
 -- P10: a lone surrogate, and a pair
+abbrev pub decodes : List ℕ → List ℕ → Case
+decodes units known = record { of = 10; given = units; says = decoded units; known = known }
+
 abbrev pub surrogates : List Case
 surrogates =
-    record { of = 10; says = decoded (0xD800 ∷ []); known = 0xEF ∷ 0xBF ∷ 0xBD ∷ [] }
-    ∷ record { of = 10; says = decoded (0xD83D ∷ 0xDE00 ∷ []); known = 0xF0 ∷ 0x9F ∷ 0x98 ∷ 0x80 ∷ [] }
+    decodes (0xD800 ∷ []) (0xEF ∷ 0xBF ∷ 0xBD ∷ [])
+    ∷ decodes (0xD83D ∷ 0xDE00 ∷ []) (0xF0 ∷ 0x9F ∷ 0x98 ∷ 0x80 ∷ [])
     ∷ []

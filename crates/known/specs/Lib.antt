@@ -5,3 +5,4 @@ pub mod Journals
 pub mod Images
 pub mod Paths
 pub mod Cases
+pub mod Scope

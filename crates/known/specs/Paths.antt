@@ -14,9 +14,12 @@ names (suc n) = 0x5C ∷ 0x61 ∷ names n
 
 -- P9: 256 names under 5:5 begin with a full stop, 257 with UNRESOLVED(5:5); 9:1 as its own parent, named a, gives UNRESOLVED(9:1) and 257 names.
 -- Each has just the room that its text takes; the 0 in front says that it is answered.
+abbrev pub nestedSays : ℕ → ℕ → List ℕ → Case
+nestedSays n room known = record { of = 9; given = n ∷ []; says = pathSays (nestedTable n) (lastKey n) room; known = known }
+
 abbrev pub depths : List Case
 depths =
-    record { of = 9; says = pathSays (nestedTable 256) (lastKey 256) 513; known = 0 ∷ 0x2E ∷ names 256 }
-    ∷ record { of = 9; says = pathSays (nestedTable 257) (lastKey 257) 529; known = 0 ∷ (unresolved ++ (0x35 ∷ 0x3A ∷ 0x35 ∷ 0x29 ∷ names 257)) }
-    ∷ record { of = 9; says = pathSays loopTable (key 9 1) 529; known = 0 ∷ (unresolved ++ (0x39 ∷ 0x3A ∷ 0x31 ∷ 0x29 ∷ names 257)) }
+    nestedSays 256 513 (0 ∷ 0x2E ∷ names 256)
+    ∷ nestedSays 257 529 (0 ∷ (unresolved ++ (0x35 ∷ 0x3A ∷ 0x35 ∷ 0x29 ∷ names 257)))
+    ∷ record { of = 9; given = []; says = pathSays loopTable (key 9 1) 529; known = 0 ∷ (unresolved ++ (0x39 ∷ 0x3A ∷ 0x31 ∷ 0x29 ∷ names 257)) }
     ∷ []

@@ -1,7 +1,7 @@
 -- What each call's contract says is what the list of calls says of it: the outcome and the state after it are rewritten by the contract's equations.
 -- Assumes nothing.
 use Prim.Native.Nat.{ℕ}
-use mathlib.Core.Path.{_≡_, refl, _∙_}
+use mathlib.Core.Path.{_≡_, refl, sym, _∙_}
 use mathlib.Core.List.{List, []}
 use native.Mathlib.Omega.{arith}
 use lib.ListN.{length, getD, set}
@@ -22,7 +22,8 @@ use Rattle.rewind.specs.Telling.{told, toldAnswer}
 use Rattle.rewind.specs.declared.Started.{Started}
 use Rattle.rewind.specs.declared.Started.the-variants as started
 use Rattle.masking.specs.Calls.{Sources, kept, State, keptAt, rewindOf, step, stored, startResult, nextResult}
-use Rattle.masking.specs.Contracts.{storedAs, InsertIs, InsertIfAbsentIs, SeedIs, SeedFromCarvedIs, startedAs, StartIs, pathOf, pathTextOf, NextIs, NextTextIs}
+use Rattle.masking.specs.Contracts.{storedAs, InsertIs, InsertIfAbsentIs, SeedIs, SeedFromCarvedIs, startedAs, StartIs, pathOf, pathTextOf, NextIs, NextTextIs, WindowListsAreCalls}
+use Rattle.usn_reader.specs.Run.{readingOf, bufferOf}
 
 -- a table that is put back leaves the tables as they were
 pub same-kept : (st : State) (i : ℕ) → set (st .tables) i (keptAt i st) ≡ st .tables
@@ -103,3 +104,14 @@ module _ (s : Sources) (st : State) (i : ℕ) where
       told-step : (o : Outcome (Next Step)) → toldAnswer (s .journal) (s .image) o ≡ mapOutcome (pathTextOf (s .journal) (s .image)) (mapOutcome step o)
       told-step (refused n) = refl
       told-step (answered x) = refl
+
+-- the window's calls
+pub window-is : WindowListsAreCalls
+unfolding readingOf bufferOf
+window-is =
+    record {
+      next-is = λ st r e. (sym e, rw e refl);
+      give-is = λ st x r buffer′ h. (sym (h .answer), rw (h .answer, h .filled) refl);
+      next-other-is = λ st b r e. (sym e, rw e refl);
+      give-other-is = λ st b x r b′ h. (sym (h .answer), rw (h .answer) refl);
+    }

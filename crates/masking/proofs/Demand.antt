@@ -21,7 +21,7 @@ use Rattle.path.proofs.TwoRuns.{path-two-runs, decode-two-runs}
 use Rattle.masking.specs.Calls.{Sources, sources, resultOf}
 use Rattle.masking.specs.Demand.{imageNames, SharedImage, SharedRecords, Strikes, Shared, Reader, scanner, carver, window, scanPlaces, carverPlaces, windowPlaces, Differ, Share, NamesDecideNothing}
 use Rattle.masking.proofs.CallLaws.{struck-full, full-struck, struck-stays}
-use Rattle.masking.proofs.ContractLaws.{insert-is, insert-if-absent-is, seed-is, seed-from-carved-is, start-is, next-is, next-text-is}
+use Rattle.masking.proofs.ContractLaws.{insert-is, insert-if-absent-is, seed-is, seed-from-carved-is, start-is, next-is, next-text-is, window-is}
 use Rattle.masking.proofs.RunLaws.{run-is}
 use Rattle.masking.specs.Contracts.{ListsAreCalls}
 use Rattle.masking.proofs.EnvironmentLaws.{environment-same}
@@ -108,6 +108,7 @@ lists-are-calls =
       next-is = next-is;
       next-text-is = next-text-is;
       run-is = run-is;
+      window-is = window-is;
     }
 
 pub names-decide-nothing : NamesDecideNothing

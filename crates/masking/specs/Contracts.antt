@@ -35,6 +35,11 @@ use Rattle.rewind.specs.declared.Started.{Started}
 use Rattle.rewind.specs.declared.Started.the-variants as started
 use Rattle.rewind.specs.declared.ChainStep.{ChainStep}
 use Rattle.rewind.specs.declared.PathStep.{PathStep}
+use Rattle.usn_reader.specs.Calls.{nextOf as nextWith}
+use Rattle.usn_reader.specs.Run.{readingOf, stateAfter, State as WindowState, Call as WindowCall, next as asks, give as gives, nextOther as asksOther, giveOther as givesOther}
+use Rattle.usn_reader.specs.Promise.{Gives}
+use Rattle.usn_reader.specs.Rule.{bufferReads}
+use Rattle.usn_reader.specs.declared.Reading.{Reading}
 use Rattle.rewind_run.specs.Running.{runFrom}
 use Rattle.rewind_run.specs.Calls.{rooms}
 use Rattle.rewind_run.specs.Promise.{RunsIndexed}
@@ -189,6 +194,16 @@ module _ (s : Sources) (st : State) (i : ℕ) where
       → RunsIndexed (s .journal) (s .image) (s .records) (here .words) rewind heads nexts ends text r words′ heads′ nexts′ ends′ text′
       → RunAs r words′ (map (nextText i) (rooms (s .journal) (s .image) (s .records) (length text) (length ends) (runFrom (here .words) rewind)))
 
+-- the window's calls: the answer and the window that a call returns are the list's, and so is the buffer at exit. A call with another buffer leaves the window's own.
+abbrev pub WindowLeaves : WindowCall → WindowState → Reading → List ℕ → Type 0
+WindowLeaves c st r buffer′ = (readingOf c st ≡ r) × (stateAfter c st ≡ record { window = r .reader; buffer = buffer′ })
+
+pub record WindowListsAreCalls : Type 0 where
+  pub next-is : (st : WindowState) (r : Reading) → r ≡ nextWith (bufferReads (st .buffer)) (length (st .buffer)) (st .window) → WindowLeaves asks st r (st .buffer)
+  pub give-is : (st : WindowState) (x : List ℕ) (r : Reading) (buffer′ : List ℕ) → Gives (st .window) (st .buffer) x r buffer′ → WindowLeaves (gives x) st r buffer′
+  pub next-other-is : (st : WindowState) (b : List ℕ) (r : Reading) → r ≡ nextWith (bufferReads b) (length b) (st .window) → WindowLeaves (asksOther b) st r (st .buffer)
+  pub give-other-is : (st : WindowState) (b x : List ℕ) (r : Reading) (b′ : List ℕ) → Gives (st .window) b x r b′ → WindowLeaves (givesOther b x) st r (st .buffer)
+
 -- all of them, over any sources, from any state, on any of its tables
 pub record ListsAreCalls : Type 0 where
   pub insert-is : (s : Sources) (st : State) (i : ℕ) → InsertIs s st i
@@ -199,3 +214,4 @@ pub record ListsAreCalls : Type 0 where
   pub next-is : (s : Sources) (st : State) (i : ℕ) → NextIs s st i
   pub next-text-is : (s : Sources) (st : State) (i : ℕ) → NextTextIs s st i
   pub run-is : (s : Sources) (st : State) (i : ℕ) → RunIs s st i
+  pub window-is : WindowListsAreCalls

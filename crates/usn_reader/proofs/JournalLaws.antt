@@ -81,7 +81,7 @@ module _ (s : List ℕ) (p e : ℕ) (st : Steady s p e) where
       cond-cases F (ltb e (p + n))
       (λ d. cond-cases (λ (q : ℕ). F (refillTo (length s) p e q)) (ltb (length s) (p + n)) (λ _. falls-skip r) (λ _. falls-refill n high (ltb-true e (p + n) d))) λ d.
       let in′ : p + n ≤ e = ltb-false e (p + n) d in
-      falls-on (p + round8 n) r (omega arith) (omega arith) (found p n (listed s p))
+      falls-on _ r (omega arith) (omega arith) (found p n (listed s p))
 
 after-agree : (s : List ℕ) (p e : ℕ) (x : Step) (f g : ℕ → ℕ → List Place) → Falls s p e x
     → ((q h : ℕ) → Steady s q h → left s q h < left s p e → f q h ≡ g q h) → afterStep x f ≡ afterStep x g

@@ -45,13 +45,13 @@ slice-write-way : (t : ℕ) → lts.Need-slice-write-way (step-reads.Asked, step
 slice-write-way t c = omega (arith, c .before .before .before .before .before .before .before .pre .1 .1 .1 .room)
 
 sub-result : (t : ℕ) → lts.Need-sub-result (step-reads.Asked, step-reads.Learnt, info-at-reads.Asked, info-at-reads.Learnt, step-bound-reads.Asked, step-bound-reads.Learnt, below t, reads.Post) (here t) reads.Post
-sub-result t c = c .before .before .before .before .before .before .before .pre .1 .1 .1 .near
+sub-result t c = omega (arith, c .before .before .before .before .before .before .before .pre .1 .1 .1 .near)
 
 enum-known-i : (t : ℕ) → lts.Need-enum-known-i (step-reads.Asked, step-reads.Learnt, info-at-reads.Asked, info-at-reads.Learnt, step-bound-reads.Asked, step-bound-reads.Learnt, below t, reads.Post) (here t) reads.Post
 enum-known-i t c = search needs
 
 sub-way : (t : ℕ) → lts.Need-sub-way (step-reads.Asked, step-reads.Learnt, info-at-reads.Asked, info-at-reads.Learnt, step-bound-reads.Asked, step-bound-reads.Learnt, below t, reads.Post) (here t) reads.Post
-sub-way t c = c .before .before .before .before .before .before .before .before .pre .1 .1 .1 .near
+sub-way t c = omega (arith, c .before .before .before .before .before .before .before .before .pre .1 .1 .1 .near)
 
 mul-way-2 : (t : ℕ) → lts.Need-mul-way-2 (step-reads.Asked, step-reads.Learnt, info-at-reads.Asked, info-at-reads.Learnt, step-bound-reads.Asked, step-bound-reads.Learnt, below t, reads.Post) (here t) reads.Post
 mul-way-2 t c = omega (arith, c .before .before .before .before .before .before .before .before .pre .1 .1 .1 .near)
