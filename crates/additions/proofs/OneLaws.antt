@@ -14,7 +14,7 @@ use Rattle.walk.specs.Outcome.{Outcome, refused, answered}
 use Rattle.walk.specs.Refusals.{tableFull}
 use Rattle.walk.proofs.ChoiceLaws.{cond-cases}
 use Rattle.entry_slots.specs.Names.{Lengths, inside, allInside}
-use Rattle.entry_slots.specs.Slots.{stride, slotsIn, keyAt, nameAt, infoAt, entryWords, putAt, namesIn}
+use Rattle.entry_slots.specs.Slots.{stride, slotsIn, keyAt, slotName, infoAt, slotWords, putAt, namesIn}
 use Rattle.entry_slots.specs.Table.{Table, table, find, slotFor, known, Addition, add}
 use Rattle.additions.specs.Storing.{adding, usedAfter, wordsAfter}
 use Rattle.entry_slots.specs.declared.EntryKey.{EntryKey}
@@ -36,7 +36,7 @@ sets-same (v ∷ vs) l a h =
     ∙ sets-same vs l (suc a) (λ r k. let e : a + suc r ≡ suc a + r = omega arith in h (suc r) (omega arith) ∙ ap (λ (i : ℕ). getD l i 0) e)
 
 -- the words of a slot are those that its key and its entry make
-slot-words : (s : List ℕ) (i r : ℕ) → r < stride → getD (entryWords (keyAt s i) (infoAt s i)) r 0 ≡ getD s (i * stride + r) 0
+slot-words : (s : List ℕ) (i r : ℕ) → r < stride → getD (slotWords (keyAt s i) (infoAt s i)) r 0 ≡ getD s (i * stride + r) 0
 slot-words s i zero h = let e : i * stride ≡ i * stride + 0 = omega arith in ap (λ (j : ℕ). getD s j 0) e
 slot-words s i (suc zero) h = refl
 slot-words s i (suc (suc zero)) h = refl
@@ -48,14 +48,14 @@ slot-words s i (suc (suc (suc (suc (suc (suc (suc r))))))) h = absurd (omega ari
 
 pub put-same : (s : List ℕ) (i : ℕ) → putAt s i (keyAt s i) (infoAt s i) ≡ s
 unfolding putAt
-put-same s i = sets-same (entryWords (keyAt s i) (infoAt s i)) s (i * stride) (slot-words s i)
+put-same s i = sets-same (slotWords (keyAt s i) (infoAt s i)) s (i * stride) (slot-words s i)
 
 pub put-over : (s : List ℕ) (i : ℕ) (k k′ : EntryKey) (e e′ : EntryInfo) → i * stride + stride ≤ length s → putAt (putAt s i k e) i k′ e′ ≡ putAt s i k′ e′
 unfolding putAt
 put-over s i k k′ e e′ h =
     let a : ℕ = i * stride in
-    let us = entryWords k e in
-    let vs = entryWords k′ e′ in
+    let us = slotWords k e in
+    let vs = slotWords k′ e′ in
     ext-getD 0 (sets (sets s a us) a vs) (sets s a vs)
     (length-sets (sets s a us) a vs ∙ length-sets s a us ∙ sym (length-sets s a vs))
     (λ p _. go a us vs refl refl h p (ltb p a) refl (ltb p (a + stride)) refl)
@@ -112,26 +112,26 @@ module _ (t : Table) (a : Addition) (room : t .used + cond (known t (a .key)) 0 
   -- the names of the used slots
   module _ (ls : Lengths) (old : allInside ls (namesIn (t .words) (t .used)) ≡ true) (own : inside ls (a .info .name) ≡ true) where
     name-put : (i j : ℕ) → i * stride + stride ≤ length (t .words) → ((j ≡ i → ⊥) → j < t .used)
-        → inside ls (nameAt (putAt (t .words) i (a .key) (a .info)) j) ≡ true
+        → inside ls (slotName (putAt (t .words) i (a .key) (a .info)) j) ≡ true
     name-put i j h k = go (eqb j i) refl
       where
-        go : (b : Bool) → eqb j i ≡ b → inside ls (nameAt (putAt (t .words) i (a .key) (a .info)) j) ≡ true
+        go : (b : Bool) → eqb j i ≡ b → inside ls (slotName (putAt (t .words) i (a .key) (a .info)) j) ≡ true
         go true e =
             let q : j ≡ i = eqb-true j i e in
             rw q (ap (λ (x : EntryInfo). inside ls (x .name)) (put-info (t .words) i (a .key) (a .info) h) ∙ own)
         go false e =
             ap (λ (x : EntryInfo). inside ls (x .name)) (put-info-other (t .words) i (a .key) (a .info) j (eqb-false j i e))
-            ∙ all-inside-at ls (nameAt (t .words)) 0 (t .used) j old (omega arith) (omega (arith, k (eqb-false j i e)))
+            ∙ all-inside-at ls (slotName (t .words)) 0 (t .used) j old (omega arith) (omega (arith, k (eqb-false j i e)))
 
     pub names-added : allInside ls (namesIn (add t a .words) (add t a .used)) ≡ true
     names-added =
         by-find t a room (λ u. allInside ls (namesIn (u .words) (u .used)) ≡ true)
         (λ i e r.
         let below : i < t .used = find-used t (a .key) i e in
-        at-every (inside ls) (nameAt (putAt (t .words) i (a .key) (a .info))) 0 (t .used) (λ j x y. name-put i j (omega (arith, room)) (λ _. omega arith)))
+        at-every (inside ls) (slotName (putAt (t .words) i (a .key) (a .info))) 0 (t .used) (λ j x y. name-put i j (omega (arith, room)) (λ _. omega arith)))
         (λ i e r. old)
         (λ e h.
-        at-every (inside ls) (nameAt (putAt (t .words) (t .used) (a .key) (a .info))) 0 (t .used + 1) (λ j x y. name-put (t .used) j (omega arith) (λ q. omega arith)))
+        at-every (inside ls) (slotName (putAt (t .words) (t .used) (a .key) (a .info))) 0 (t .used + 1) (λ j x y. name-put (t .used) j (omega arith) (λ q. omega arith)))
 
   -- what stood in its slot, put back, takes it back
   pub put-back : {at : ℕ} → at ≡ slotFor t (a .key) → putAt (add t a .words) at (keyAt (t .words) at) (infoAt (t .words) at) ≡ t .words

@@ -28,7 +28,7 @@ use Rattle.entry_table.specs.declared.Stored.{Stored}
 use Rattle.entry_table.proofs.Stored as D
 use Rattle.entry_table.proofs.Stored.Laws as D′
 use Rattle.carved_seed.proofs.Values.{mach, val, Good, GoodC}
-use Rattle.carved_seed.proofs.on as on
+use Rattle.carved_seed.proofs.on
 use Rattle.carved_seed.proofs.used_in as used-in
 use Rattle.carved_seed.proofs.carved.key_of as key-of
 use Rattle.carved_seed.proofs.carved.info_of as info-of

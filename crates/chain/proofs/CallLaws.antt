@@ -18,7 +18,7 @@ use Rattle.chain.specs.declared.ChainAnswer.{ChainAnswer}
 use Rattle.chain.specs.declared.ChainAnswer.the-variants.{Resolved, Refused}
 use Rattle.chain.specs.declared.ResolvedPath.{ResolvedPath}
 use Rattle.chain.specs.Chain.{Chain, chainOf, resolved}
-use Rattle.chain.specs.Tracing.{inDomain, tracing, pathRefusal, listed}
+use Rattle.chain.specs.Tracing.{inDomain, tracing, pathRefusal, withPlaces}
 
 -- journal or image above the domain, and neither
 module _ {A : Type 0} (ls : Lengths) (o : Outcome A) where
@@ -133,5 +133,5 @@ module _ (ls : Lengths) (t : Table) (depth : ℕ) (k : EntryKey) (l : List ℕ) 
   chain-refused e = record { answer = sym (ap (mapOutcome resolved) e); places = rw e }
 
   pub chain-listed : tracing ls t depth k ≡ answered (chainOf t depth k) → {p : ResolvedPath} {m : List ℕ} → p ≡ resolved (chainOf t depth k)
-      → m ≡ listed l (chainOf t depth k .places) → Comes (Resolved p) m
+      → m ≡ withPlaces l (chainOf t depth k .places) → Comes (Resolved p) m
   chain-listed e g f = record { answer = ap answered g ∙ sym (ap (mapOutcome resolved) e); places = rw e f }

@@ -17,21 +17,21 @@ use Rattle.chain.specs.declared.ChainEnd.the-variants.{Root, Unknown, Un
 use Rattle.chain.specs.declared.ResolvedPath.{ResolvedPath}
 use Rattle.chain.specs.declared.steps.Way.{Way}
 use Rattle.chain.specs.declared.steps.Way.the-variants.{End, Slot}
-use Rattle.chain.specs.Chain.{Chain, bare, under, isRoot, linked, chain, resolved, stepFound, stepOf}
+use Rattle.chain.specs.Chain.{Chain, bare, under, isRoot, linked, chain, resolved, wayFound, wayOf}
 
 -- the step by its tests
 module _ (t : Table) (n : ℕ) (k : EntryKey) where
-  pub step-deep : n ≡ 0 → End (Unresolved k) ≡ stepOf t n k
-  unfolding stepOf
+  pub step-deep : n ≡ 0 → End (Unresolved k) ≡ wayOf t n k
+  unfolding wayOf
   step-deep z = simp (eq-eqb n 0 z)
 
   module _ (more : n ≡ 0 → ⊥) {b : Bool} (e : b ≡ isRoot k) where
-    pub step-root : b ≡ true → End Root ≡ stepOf t n k
-    unfolding stepOf
+    pub step-root : b ≡ true → End Root ≡ wayOf t n k
+    unfolding wayOf
     step-root y = simp (ne-eqb n 0 more, ← e, y)
 
-    pub step-found : {f : Found} → b ≡ false → f ≡ find t k → stepFound k f ≡ stepOf t n k
-    unfolding stepOf
+    pub step-found : {f : Found} → b ≡ false → f ≡ find t k → wayFound k f ≡ wayOf t n k
+    unfolding wayOf
     step-found y f = simp (ne-eqb n 0 more, ← e, y, ← f)
 
 -- a slot that a key is found in is a used one
@@ -49,24 +49,24 @@ abbrev Begins : Table → ℕ → EntryKey → Way → Type 0
 Begins t n k (End e) = chain t n k ≡ bare e
 Begins t n k (Slot i) = Up t n k i
 
-step-more : (t : Table) (n : ℕ) (k : EntryKey) → stepOf t (suc n) k ≡ cond (isRoot k) (End Root) (stepFound k (find t k))
-unfolding stepOf
+step-more : (t : Table) (n : ℕ) (k : EntryKey) → wayOf t (suc n) k ≡ cond (isRoot k) (End Root) (wayFound k (find t k))
+unfolding wayOf
 step-more t n k = simp (ne-eqb (suc n) 0 (λ z. omega arith))
 
-begins : (t : Table) (n : ℕ) (k : EntryKey) → Begins t n k (stepOf t n k)
-unfolding chain stepOf
+begins : (t : Table) (n : ℕ) (k : EntryKey) → Begins t n k (wayOf t n k)
+unfolding chain wayOf
 begins t zero k = refl
 begins t (suc n) k = rw (step-more t n k) (go (isRoot k) refl (find t k) refl)
   where
-    go : (b : Bool) → isRoot k ≡ b → (f : Found) → find t k ≡ f → Begins t (suc n) k (cond b (End Root) (stepFound k f))
+    go : (b : Bool) → isRoot k ≡ b → (f : Found) → find t k ≡ f → Begins t (suc n) k (cond b (End Root) (wayFound k f))
     go true x f y = rw (chain, x)
     go false x Nothing y = rw (chain, x, y)
     go false x (At i) y = let m : suc n - 1 ≡ n = omega arith in record { slot = found-used t k i y; level = omega arith; rest = rw (m, chain, x, y) }
 
-pub chain-end : (t : Table) (n : ℕ) (k : EntryKey) {e : ChainEnd} → End e ≡ stepOf t n k → chain t n k ≡ bare e
+pub chain-end : (t : Table) (n : ℕ) (k : EntryKey) {e : ChainEnd} → End e ≡ wayOf t n k → chain t n k ≡ bare e
 chain-end t n k h = rw (← h) at (begins t n k)
 
-pub chain-up : (t : Table) (n : ℕ) (k : EntryKey) {i : ℕ} → Slot i ≡ stepOf t n k → Up t n k i
+pub chain-up : (t : Table) (n : ℕ) (k : EntryKey) {i : ℕ} → Slot i ≡ wayOf t n k → Up t n k i
 chain-up t n k h = rw (← h) at (begins t n k)
 
 -- what holds of every end, and of every name of a used slot under a chain with a level less, holds of a chain
@@ -89,10 +89,10 @@ names-most t (suc n) k =
     (λ i h. simp length-append (omega (arith, names-most t n (infoAt (t .words) i .parent))))
 
 -- what a chain resolves to: at its end, and with a name more
-pub resolved-end : (t : Table) (n : ℕ) (k : EntryKey) {e : ChainEnd} → End e ≡ stepOf t n k → _≡_ {A = ResolvedPath} (record { names = 0; end = e }) (resolved (chain t n k))
+pub resolved-end : (t : Table) (n : ℕ) (k : EntryKey) {e : ChainEnd} → End e ≡ wayOf t n k → _≡_ {A = ResolvedPath} (record { names = 0; end = e }) (resolved (chain t n k))
 resolved-end t n k h = rw (chain-end t n k h)
 
-module _ (t : Table) (n : ℕ) (k : EntryKey) {i : ℕ} (h : Slot i ≡ stepOf t n k) {info : EntryInfo} {above : ResolvedPath}
+module _ (t : Table) (n : ℕ) (k : EntryKey) {i : ℕ} (h : Slot i ≡ wayOf t n k) {info : EntryInfo} {above : ResolvedPath}
     (e : info ≡ infoAt (t .words) i) (f : above ≡ resolved (chain t (n - 1) (info .parent))) where
   pub names-below : above .names ≤ n - 1
   names-below = omega (arith, ap (λ (r : ResolvedPath). r .names) f, names-most t (n - 1) (info .parent))

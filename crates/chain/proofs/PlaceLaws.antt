@@ -9,7 +9,7 @@ use Rattle.walk.specs.Lists.{flatten}
 use Rattle.walk.proofs.ListLaws.{Writing, length-flatten, writing-end}
 use Rattle.entry_slots.specs.declared.NamePlace.{NamePlace}
 use Rattle.chain.specs.Chain.{sourceWords, chainWords}
-use Rattle.chain.specs.Tracing.{listed}
+use Rattle.chain.specs.Tracing.{withPlaces}
 
 -- one thing more at the end
 pub flatten-more : {A : Type 0} (words : A → List ℕ) (xs : List A) (x : A) → flatten words (xs ++ (x ∷ [])) ≡ flatten words xs ++ words x
@@ -24,11 +24,11 @@ words-length ps = length-flatten sourceWords 3 place-row ps
 
 -- a list that has no room for all places is left alone, and one that has holds them in front
 module _ (l : List ℕ) (ps : List NamePlace) where
-  pub listed-none : length l / 3 < length ps → l ≡ listed l ps
-  unfolding listed
+  pub listed-none : length l / 3 < length ps → l ≡ withPlaces l ps
+  unfolding withPlaces
   listed-none h = sym (simp (lt-leb (length (chainWords ps)) (length l) (omega (arith, words-length ps))))
 
-  pub listed-all : length ps ≤ length l / 3 → {m : List ℕ} {i : ℕ} → Writing sourceWords 3 l m i [] ps → m ≡ listed l ps
-  unfolding listed
+  pub listed-all : length ps ≤ length l / 3 → {m : List ℕ} {i : ℕ} → Writing sourceWords 3 l m i [] ps → m ≡ withPlaces l ps
+  unfolding withPlaces
   listed-all h w =
       writing-end sourceWords 3 place-row w refl h ∙ sym (simp (le-leb (length (chainWords ps)) (length l) (omega (arith, words-length ps))))

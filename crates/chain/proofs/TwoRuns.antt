@@ -11,7 +11,7 @@ use Rattle.walk.specs.Outcome.{Outcome, refused, answered, mapOutcome}
 use Rattle.walk.specs.Refusals.{aboveDomain, nameOutside, badState, domain}
 use Rattle.walk.proofs.ChoiceLaws.{cond-cases}
 use Rattle.entry_slots.specs.Names.{Lengths, lengthsOf, inside, allInside}
-use Rattle.entry_slots.specs.Slots.{slotsIn, infoAt, nameAt, namesIn}
+use Rattle.entry_slots.specs.Slots.{slotsIn, infoAt, slotName, namesIn}
 use Rattle.entry_slots.specs.Table.{Table}
 use Rattle.entry_slots.specs.declared.EntryKey.{EntryKey}
 use Rattle.entry_slots.specs.declared.NamePlace.{NamePlace}
@@ -51,7 +51,7 @@ sound ls t depth k {c} e =
       slots = chain-slots t (depth + 1) k;
       insides = λ p m.
           let o = chain-slots t (depth + 1) k p m in
-          rw (o .name) (all-inside-at ls (nameAt (t .words)) 0 (t .used) (o .slot) (w .places) (omega arith) (omega (arith, o .used)));
+          rw (o .name) (all-inside-at ls (slotName (t .words)) 0 (t .used) (o .slot) (w .places) (omega arith) (omega (arith, o .used)));
     }
 
 -- a chain is refused with 1, 9 or 7 alone

@@ -10,7 +10,7 @@ use borrow.Author.Tests.{lt-ltb, le-ltb, eq-eqb, ne-eqb, eqb-true, eqb-false}
 use mathlib.Core.Bool.{Bool, true, false, cond}
 use lib.ListN.{length, length-append, length-set, getD, set}
 use lib.Seq.{getD-set-same, getD-set-other}
-use Rattle.entry_slots.specs.Slots.{stride, nameAt, infoAt}
+use Rattle.entry_slots.specs.Slots.{stride, slotName, infoAt}
 use Rattle.entry_slots.specs.Index.{Indexed}
 use Rattle.entry_slots.specs.Table.{Table, table, find}
 use Rattle.entry_slots.proofs.IndexLaws.{none-indexed}
@@ -24,31 +24,31 @@ use Rattle.chain.specs.declared.ChainEnd.the-variants.{Root, Unknown, Un
 use Rattle.entry_slots.specs.declared.slots.Found.{Found}
 use Rattle.entry_slots.specs.declared.slots.Found.the-variants.{At, Nothing}
 use Rattle.chain.specs.Settings.{depth, levels}
-use Rattle.chain.specs.Chain.{Chain, chain, chainOf, resolved, isRoot, stepFound, stepOf}
-use Rattle.chain.specs.Way.{placesOf, stepBound, namesBound, topKey, endUnder, endBy, resolvedBy, Slots, Below}
+use Rattle.chain.specs.Chain.{Chain, chain, chainOf, resolved, isRoot, wayFound, wayOf}
+use Rattle.chain.specs.Way.{wayPlaces, stepBound, namesBound, topKey, endUnder, endBy, resolvedBy, Slots, Below}
 use Rattle.chain.specs.Promise.{Rises, RiseAsks, Climbs}
 use Rattle.chain.proofs.ChainLaws.{chain-end, chain-up}
 
 -- the last slot's name comes first
-pub places-more : (words way : List ℕ) (n : ℕ) → placesOf words way (n + 1) ≡ nameAt words (getD way n 0) ∷ placesOf words way n
-unfolding placesOf
+pub places-more : (words way : List ℕ) (n : ℕ) → wayPlaces words way (n + 1) ≡ slotName words (getD way n 0) ∷ wayPlaces words way n
+unfolding wayPlaces
 places-more words way n = rw (add-one n)
 
-pub places-less : (words way : List ℕ) (n : ℕ) → 0 < n → placesOf words way n ≡ nameAt words (getD way (n - 1) 0) ∷ placesOf words way (n - 1)
-places-less words way n h = let e : n - 1 + 1 ≡ n = omega arith in ap (placesOf words way) (sym e) ∙ places-more words way (n - 1)
+pub places-less : (words way : List ℕ) (n : ℕ) → 0 < n → wayPlaces words way n ≡ slotName words (getD way (n - 1) 0) ∷ wayPlaces words way (n - 1)
+places-less words way n h = let e : n - 1 + 1 ≡ n = omega arith in ap (wayPlaces words way) (sym e) ∙ places-more words way (n - 1)
 
-pub places-none : (words way : List ℕ) → placesOf words way 0 ≡ []
-unfolding placesOf
+pub places-none : (words way : List ℕ) → wayPlaces words way 0 ≡ []
+unfolding wayPlaces
 places-none words way = refl
 
-pub places-count : (words way : List ℕ) (n : ℕ) → length (placesOf words way n) ≡ n
-unfolding placesOf
+pub places-count : (words way : List ℕ) (n : ℕ) → length (wayPlaces words way n) ≡ n
+unfolding wayPlaces
 places-count words way zero = refl
 places-count words way (suc n) = ap suc (places-count words way n)
 
 -- a slot behind the first n does not change their names
-places-set : (words way : List ℕ) (n i v : ℕ) → n ≤ i → placesOf words (set way i v) n ≡ placesOf words way n
-unfolding placesOf
+places-set : (words way : List ℕ) (n i v : ℕ) → n ≤ i → wayPlaces words (set way i v) n ≡ wayPlaces words way n
+unfolding wayPlaces
 places-set words way zero i v h = refl
 places-set words way (suc n) i v h = rw (getD-set-other way i n v 0 (λ e. omega arith), places-set words way n i v (omega arith))
 
@@ -89,9 +89,9 @@ end-set words way (suc n) i v k h =
     rw (e, getD-set-other way i n v 0 (λ z. omega arith))
 
 -- it is what the step from the key comes to
-end-here : (t : Table) (way : List ℕ) (n : ℕ) (k : EntryKey) {e : ChainEnd} → n ≤ levels → (0 < levels - n → infoAt (t .words) (getD way (levels - n - 1) 0) .parent ≡ k) → End e ≡ stepOf t n k
+end-here : (t : Table) (way : List ℕ) (n : ℕ) (k : EntryKey) {e : ChainEnd} → n ≤ levels → (0 < levels - n → infoAt (t .words) (getD way (levels - n - 1) 0) .parent ≡ k) → End e ≡ wayOf t n k
     → endBy (t .words) way (levels - n) k ≡ e
-unfolding endBy stepOf
+unfolding endBy wayOf
 end-here t way n k {e} near reached h = rw top (go (eqb n 0) refl (isRoot k) refl (find t k) h)
   where
     top : topKey (t .words) way (levels - n) k ≡ k
@@ -101,7 +101,7 @@ end-here t way n k {e} near reached h = rw top (go (eqb n 0) refl (isRoot k) ref
         go′ true q = refl
         go′ false q = reached (omega (arith, eqb-false (levels - n) 0 q))
 
-    go : (b : Bool) → eqb n 0 ≡ b → (c : Bool) → isRoot k ≡ c → (f : Found) → End e ≡ cond b (End (Unresolved k)) (cond c (End Root) (stepFound k f))
+    go : (b : Bool) → eqb n 0 ≡ b → (c : Bool) → isRoot k ≡ c → (f : Found) → End e ≡ cond b (End (Unresolved k)) (cond c (End Root) (wayFound k f))
         → cond (eqb (levels - n) levels) (Unresolved k) (cond (isRoot k) Root (Unknown k)) ≡ e
     go true q c x f g = rw (eq-eqb (levels - n) levels (omega (arith, eqb-true n 0 q))) (cc)
     go false q true x f g = rw (ne-eqb (levels - n) levels (λ z. eqb-false n 0 q (omega arith)), x) (cc)
@@ -116,7 +116,7 @@ module _ (t : Table) (n : ℕ) (k : EntryKey) (way : List ℕ) (bound : ℕ) (as
   abbrev gone : ℕ
   gone = levels - n
 
-  pub rise-end : {e : ChainEnd} → End e ≡ stepOf t n k → Rises t n k way bound gone (set way last bound)
+  pub rise-end : {e : ChainEnd} → End e ≡ wayOf t n k → Rises t n k way bound gone (set way last bound)
   rise-end {e} h =
       let is = chain-end t n k h in
       record {
@@ -130,7 +130,7 @@ module _ (t : Table) (n : ℕ) (k : EntryKey) (way : List ℕ) (bound : ℕ) (as
       none : bound ≡ bound + namesBound []
       none = omega (arith, bound-none)
 
-  module _ {i : ℕ} (h : Slot i ≡ stepOf t n k) {info : EntryInfo} (e : info ≡ infoAt (t .words) i) {step : ℕ} (long : step ≡ stepBound (info .name)) where
+  module _ {i : ℕ} (h : Slot i ≡ wayOf t n k) {info : EntryInfo} (e : info ≡ infoAt (t .words) i) {step : ℕ} (long : step ≡ stepBound (info .name)) where
     abbrev upper : Chain
     upper = chain t (n - 1) (info .parent)
 
@@ -155,23 +155,23 @@ module _ (t : Table) (n : ℕ) (k : EntryKey) (way : List ℕ) (bound : ℕ) (as
         }
 
     module _ {r : ℕ} {way′ : List ℕ} (g : Rises t (n - 1) (info .parent) (set way gone i) (bound + step) r way′) where
-      whole-places : whole .places ≡ upper .places ++ (nameAt (t .words) i ∷ [])
+      whole-places : whole .places ≡ upper .places ++ (slotName (t .words) i ∷ [])
       whole-places = rw (chain-up t n k h .rest, e) refl
 
       whole-end : whole .end ≡ upper .end
       whole-end = rw (chain-up t n k h .rest, e) refl
 
       names-long : length (whole .places) ≡ length (upper .places) + 1
-      names-long = ap length whole-places ∙ length-append (upper .places) (nameAt (t .words) i ∷ [])
+      names-long = ap length whole-places ∙ length-append (upper .places) (slotName (t .words) i ∷ [])
 
       all-bound : bound + step + namesBound (upper .places) ≡ bound + namesBound (whole .places)
       all-bound =
-          let same : stepBound (info .name) ≡ stepBound (nameAt (t .words) i) = ap (λ (x : EntryInfo). stepBound (x .name)) e in
-          omega (arith, long, same, ap namesBound whole-places, bound-more (upper .places) (nameAt (t .words) i))
+          let same : stepBound (info .name) ≡ stepBound (slotName (t .words) i) = ap (λ (x : EntryInfo). stepBound (x .name)) e in
+          omega (arith, long, same, ap namesBound whole-places, bound-more (upper .places) (slotName (t .words) i))
 
-      behind : placesOf (t .words) (set way gone i) (levels - (n - 1)) ≡ nameAt (t .words) i ∷ placesOf (t .words) way gone
+      behind : wayPlaces (t .words) (set way gone i) (levels - (n - 1)) ≡ slotName (t .words) i ∷ wayPlaces (t .words) way gone
       behind =
-          ap (placesOf (t .words) (set way gone i)) one-more
+          ap (wayPlaces (t .words) (set way gone i)) one-more
           ∙ places-more (t .words) (set way gone i) gone
           ∙ rw (here, places-set (t .words) way gone gone i (omega (arith, asks .room, asks .near)))
 
@@ -195,8 +195,8 @@ module _ (t : Table) (n : ℕ) (k : EntryKey) (way : List ℕ) (bound : ℕ) (as
             places =
                 g .places
                 ∙ ap (λ (ps : List NamePlace). upper .places ++ ps) behind
-                ∙ sym (append-assoc (upper .places) (nameAt (t .words) i ∷ []) (placesOf (t .words) way gone))
-                ∙ ap (λ (ps : List NamePlace). ps ++ placesOf (t .words) way gone) (sym whole-places);
+                ∙ sym (append-assoc (upper .places) (slotName (t .words) i ∷ []) (wayPlaces (t .words) way gone))
+                ∙ ap (λ (ps : List NamePlace). ps ++ wayPlaces (t .words) way gone) (sym whole-places);
             below = λ b. g .below (first b);
           }
 
@@ -218,11 +218,11 @@ risen t k way {r} {way′} g same {end} e =
       below = risen-below t k way g;
     }
   where
-    places-are : placesOf (t .words) way′ r ≡ chain t levels k .places
+    places-are : wayPlaces (t .words) way′ r ≡ chain t levels k .places
     places-are = g .places ∙ rw (places-none (t .words) way) (append-nil (chain t levels k .places))
 
 module _ (t : Table) (k : EntryKey) {r : Climbed} {way′ : List ℕ} (g : Climbs t k r way′) where
-  pub climbed-places : placesOf (t .words) way′ (r .names) ≡ chainOf t depth k .places
+  pub climbed-places : wayPlaces (t .words) way′ (r .names) ≡ chainOf t depth k .places
   climbed-places = ap (λ (c : Chain). c .places) (g .told)
 
   pub climbed-names : r .names ≡ length (chainOf t depth k .places)

@@ -58,9 +58,9 @@ abbrev pub chainWords : List NamePlace → List ℕ
 chainWords ps = flatten sourceWords ps
 
 -- the first step of that chain: it ends here, or goes on from the slot that the key stands in
-abbrev pub stepFound : EntryKey → Found → Way
-stepFound k (At i) = Slot i
-stepFound k Nothing = End (Unknown k)
+abbrev pub wayFound : EntryKey → Found → Way
+wayFound k (At i) = Slot i
+wayFound k Nothing = End (Unknown k)
 
-unfoldable pub stepOf : Table → ℕ → EntryKey → Way
-stepOf t n k = cond (eqb n 0) (End (Unresolved k)) (cond (isRoot k) (End Root) (stepFound k (find t k)))
+unfoldable pub wayOf : Table → ℕ → EntryKey → Way
+wayOf t n k = cond (eqb n 0) (End (Unresolved k)) (cond (isRoot k) (End Root) (wayFound k (find t k)))

@@ -11,7 +11,7 @@ use Rattle.entry_slots.specs.Table.{Table, table}
 use Rattle.entry_slots.specs.declared.EntryKey.{EntryKey}
 use Rattle.chain.specs.Settings.{depth, levels}
 use Rattle.chain.specs.Chain.{Chain, chain, chainOf, resolved}
-use Rattle.chain.specs.Way.{placesOf, namesBound, endBy, chainBy, Below}
+use Rattle.chain.specs.Way.{wayPlaces, namesBound, endBy, chainBy, Below}
 use Rattle.chain.specs.Tracing.{tracing, chainAfter, outcome}
 use Rattle.chain.specs.declared.ChainAnswer.{ChainAnswer}
 use Rattle.chain.specs.declared.way.Climbed.{Climbed}
@@ -31,7 +31,7 @@ pub record Rises (t : Table) (n : ℕ) (k : EntryKey) (way : List ℕ) (bound r 
   pub count : r ≡ (levels - n) + length (chain t n k .places)
   pub ends : endBy (t .words) way′ r k ≡ chain t n k .end
   pub bounds : getD way′ (length way - 1) 0 ≡ bound + namesBound (chain t n k .places)
-  pub places : placesOf (t .words) way′ r ≡ chain t n k .places ++ placesOf (t .words) way (levels - n)
+  pub places : wayPlaces (t .words) way′ r ≡ chain t n k .places ++ wayPlaces (t .words) way (levels - n)
   pub below : Below (t .used) way (levels - n) → Below (t .used) way′ r
 
 -- what is known before it: there is a word for each level and one more, the sum is small, and the key stands above the last slot of the way
@@ -47,7 +47,7 @@ RisePromise slots used key levels way bound r = Rises (table (before slots) used
 -- the whole way of a key that is asked for: its chain, the most that its names take, and that its slots are used ones
 pub record Climbs (t : Table) (k : EntryKey) (r : Climbed) (way′ : List ℕ) : Type 0 where
   pub told : chainBy (t .words) way′ r ≡ chainOf t depth k
-  pub bounds : r .bound ≡ namesBound (placesOf (t .words) way′ (r .names))
+  pub bounds : r .bound ≡ namesBound (wayPlaces (t .words) way′ (r .names))
   pub below : Below (t .used) way′ (r .names)
 
 abbrev pub ClimbPromise : Lent → ℕ → EntryKey → Lent → Climbed → Type 0

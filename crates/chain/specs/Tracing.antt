@@ -38,13 +38,13 @@ pathRefusal ls t =
     (cond (not (allInside ls (namesIn (t .words) (t .used)))) nameOutside 0)))
 
 -- the words with the chain's places in front, where there is room for all of them
-unfoldable pub listed : List ℕ → List NamePlace → List ℕ
-listed l ps = cond (leb (length (chainWords ps)) (length l)) (overwrite l (chainWords ps)) l
+unfoldable pub withPlaces : List ℕ → List NamePlace → List ℕ
+withPlaces l ps = cond (leb (length (chainWords ps)) (length l)) (overwrite l (chainWords ps)) l
 
 -- what the lent chain list holds after a call; a refusal writes nothing
 abbrev pub chainAfter : Outcome Chain → List ℕ → List ℕ
 chainAfter (refused n) l = l
-chainAfter (answered c) l = listed l (c .places)
+chainAfter (answered c) l = withPlaces l (c .places)
 
 -- what the call's answer says
 abbrev pub outcome : ChainAnswer → Outcome ResolvedPath

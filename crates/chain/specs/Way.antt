@@ -4,7 +4,7 @@ use mathlib.Core.List.{List, [], _∷_}
 use mathlib.Core.Bool.{cond}
 use lib.ListN.{length, getD}
 use lib.Dec.{eqb, ltb}
-use Rattle.entry_slots.specs.Slots.{stride, nameAt, infoAt}
+use Rattle.entry_slots.specs.Slots.{stride, slotName, infoAt}
 use Rattle.entry_slots.specs.declared.EntryKey.{EntryKey}
 use Rattle.entry_slots.specs.declared.NamePlace.{NamePlace}
 use Rattle.chain.specs.declared.ResolvedPath.{ResolvedPath}
@@ -15,9 +15,9 @@ use Rattle.chain.specs.Settings.{levels}
 use Rattle.chain.specs.Chain.{Chain, isRoot}
 
 -- where the names of the first n slots of a way lie, the last slot's first
-unfoldable pub placesOf : List ℕ → List ℕ → ℕ → List NamePlace
-placesOf words way zero = []
-placesOf words way (suc n) = nameAt words (getD way n 0) ∷ placesOf words way n
+unfoldable pub wayPlaces : List ℕ → List ℕ → ℕ → List NamePlace
+wayPlaces words way zero = []
+wayPlaces words way (suc n) = slotName words (getD way n 0) ∷ wayPlaces words way n
 
 -- the most bytes that a backslash and a name take as text: three for each unit of the name. A name that is longer than any slice counts for more than any text has
 unfoldable pub stepBound : NamePlace → ℕ
@@ -40,7 +40,7 @@ endBy words way n k = endUnder n (topKey words way n k)
 
 -- the chain of a way: its names, and the end that they hang under
 abbrev pub chainBy : List ℕ → List ℕ → Climbed → Chain
-chainBy words way up = record { places = placesOf words way (up .names); end = up .end }
+chainBy words way up = record { places = wayPlaces words way (up .names); end = up .end }
 
 abbrev pub resolvedBy : Climbed → ResolvedPath
 resolvedBy up = record { names = up .names; end = up .end }

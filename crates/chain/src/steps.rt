@@ -5,7 +5,7 @@ ghost use lib.ListN.{length};
 ghost use Rattle.entry_slots.specs.Slots.{stride};
 ghost use Rattle.entry_slots.specs.Table.{table};
 ghost use Rattle.entry_slots.specs.Index.{Indexed};
-ghost use Rattle.chain.specs.Chain.{isRoot, stepOf};
+ghost use Rattle.chain.specs.Chain.{isRoot, wayOf};
 use crate::ChainEnd;
 use entry_slots::EntryKey;
 use entry_slots::links::find;
@@ -39,7 +39,7 @@ pub fn step(
 ) -> Way
     requires { ⌜ (used * stride ≤ length (now slots)) × (0 < length (now heads) → used ≤ length (now nexts)) ⌝ }
     requires { ⌜ Indexed (table (now slots) used) (now heads) (now nexts) ⌝ }
-    ensures { λ r. ⌜ r ≡ stepOf (table (now (slots .entry)) used) levels key ⌝ }
+    ensures { λ r. ⌜ r ≡ wayOf (table (now (slots .entry)) used) levels key ⌝ }
 {
     if levels == 0 {
         return Way::End(ChainEnd::Unresolved(key));

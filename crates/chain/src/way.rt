@@ -7,8 +7,8 @@ ghost use Rattle.entry_slots.specs.Table.{table};
 ghost use Rattle.entry_slots.specs.Index.{Indexed};
 ghost use Rattle.chain.specs.Settings.{depth, levels as levelsOf};
 ghost use Rattle.chain.specs.Chain.{chainOf, resolved};
-ghost use Rattle.chain.specs.Way.{Slots, placesOf, stepBound, topKey, endUnder, resolvedBy};
-ghost use Rattle.chain.specs.Tracing.{listed};
+ghost use Rattle.chain.specs.Way.{Slots, wayPlaces, stepBound, topKey, endUnder, resolvedBy};
+ghost use Rattle.chain.specs.Tracing.{withPlaces};
 ghost use Rattle.chain.specs.Promise.{RiseAsks, RisePromise, ClimbPromise};
 use crate::ChainEnd;
 use crate::DEPTH;
@@ -141,7 +141,7 @@ pub fn climb(
 // The places of a way's names, the top one first, in a list that has room for all of them.
 pub fn list_places(slots: &[u64], way: &[usize], names: usize, list: &mut [u64])
     requires { ⌜ Slots (now slots) (now way) names ⌝ }
-    ensures { λ _. ⌜ now (list .exit) ≡ listed (now (list .entry)) (placesOf (now (slots .entry)) (now (way .entry)) names) ⌝ }
+    ensures { λ _. ⌜ now (list .exit) ≡ withPlaces (now (list .entry)) (wayPlaces (now (slots .entry)) (now (way .entry)) names) ⌝ }
 {
     if list.len() / PLACE_WORDS < names {
         return;
@@ -173,7 +173,7 @@ pub fn resolved(up: Climbed) -> ResolvedPath
 pub fn list_chain(slots: &[u64], used: usize, key: EntryKey, list: &mut [u64]) -> ResolvedPath
     requires { ⌜ used * stride ≤ length (now slots) ⌝ }
     ensures { λ r. ⌜ r ≡ resolved (chainOf (table (now (slots .entry)) used) depth key) ⌝ }
-    ensures { λ _. ⌜ now (list .exit) ≡ listed (now (list .entry)) (chainOf (table (now (slots .entry)) used) depth key .places) ⌝ }
+    ensures { λ _. ⌜ now (list .exit) ≡ withPlaces (now (list .entry)) (chainOf (table (now (slots .entry)) used) depth key .places) ⌝ }
 {
     let mut way: [usize; WAY_WORDS] = [0; WAY_WORDS];
     let none = &slots[..0];

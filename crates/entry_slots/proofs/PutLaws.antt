@@ -9,7 +9,7 @@ use borrow.Author.Tests.{ltb-true, ltb-false}
 use lib.ListN.{length, getD, set, length-set}
 use lib.Seq.{sets, length-sets, getD-set-same, getD-set-other}
 use lib.Dec.{ltb}
-use Rattle.entry_slots.specs.Slots.{stride, keyAt, infoAt, entryWords, putAt}
+use Rattle.entry_slots.specs.Slots.{stride, keyAt, infoAt, slotWords, putAt}
 use Rattle.entry_slots.specs.declared.EntryKey.{EntryKey}
 use Rattle.entry_slots.specs.declared.EntryInfo.{EntryInfo}
 
@@ -31,18 +31,18 @@ sets-at (v ∷ vs) l a (suc r) h g =
 
 pub length-put : (s : List ℕ) (j : ℕ) (k : EntryKey) (e : EntryInfo) → length (putAt s j k e) ≡ length s
 unfolding putAt
-length-put s j k e = length-sets s (j * stride) (entryWords k e)
+length-put s j k e = length-sets s (j * stride) (slotWords k e)
 
 -- words after the slot are left alone
 pub put-after : (s : List ℕ) (j : ℕ) (k : EntryKey) (e : EntryInfo) (p : ℕ) → j * stride + stride ≤ p → getD (putAt s j k e) p 0 ≡ getD s p 0
 unfolding putAt
-put-after s j k e p h = sets-after (entryWords k e) s (j * stride) p h
+put-after s j k e p h = sets-after (slotWords k e) s (j * stride) p h
 
 module _ (s : List ℕ) (j : ℕ) (k : EntryKey) (e : EntryInfo) (room : j * stride + stride ≤ length s) where
   -- word r of the slot, at q
-  word : (q r : ℕ) → q ≡ j * stride + r → r < stride → getD (putAt s j k e) q 0 ≡ getD (entryWords k e) r 0
+  word : (q r : ℕ) → q ≡ j * stride + r → r < stride → getD (putAt s j k e) q 0 ≡ getD (slotWords k e) r 0
   unfolding putAt
-  word q r at h = rw at (sets-at (entryWords k e) s (j * stride) r h room)
+  word q r at h = rw at (sets-at (slotWords k e) s (j * stride) r h room)
 
   pub put-key : keyAt (putAt s j k e) j ≡ k
   put-key = λ z. record { entry = word (j * stride) 0 (omega arith) (omega arith) z; sequence = word (j * stride + 1) 1 (omega arith) (omega arith) z }
@@ -64,9 +64,9 @@ module _ (s : List ℕ) (j : ℕ) (k : EntryKey) (e : EntryInfo) (i : ℕ) (othe
   unfolding putAt
   word-other p h g = go (ltb i j) refl
     where
-      go : (x : Bool) → ltb i j ≡ x → getD (sets s (j * stride) (entryWords k e)) p 0 ≡ getD s p 0
-      go true x = let l : i < j = ltb-true i j x in sets-before (entryWords k e) s (j * stride) p (omega arith)
-      go false x = let l : j ≤ i = ltb-false i j x in sets-after (entryWords k e) s (j * stride) p (omega arith)
+      go : (x : Bool) → ltb i j ≡ x → getD (sets s (j * stride) (slotWords k e)) p 0 ≡ getD s p 0
+      go true x = let l : i < j = ltb-true i j x in sets-before (slotWords k e) s (j * stride) p (omega arith)
+      go false x = let l : j ≤ i = ltb-false i j x in sets-after (slotWords k e) s (j * stride) p (omega arith)
 
   pub put-key-other : keyAt (putAt s j k e) i ≡ keyAt s i
   put-key-other = λ z. record { entry = word-other (i * stride) (omega arith) (omega arith) z; sequence = word-other (i * stride + 1) (omega arith) (omega arith) z }

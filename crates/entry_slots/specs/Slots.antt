@@ -34,22 +34,22 @@ nameIn s p = record { source = getD s p 0; offset = getD s (p + 1) 0; length = g
 abbrev pub keyAt : List ℕ → ℕ → EntryKey
 keyAt s i = keyIn s (i * stride)
 
-abbrev pub nameAt : List ℕ → ℕ → NamePlace
-nameAt s i = nameIn s (i * stride + 4)
+abbrev pub slotName : List ℕ → ℕ → NamePlace
+slotName s i = nameIn s (i * stride + 4)
 
 abbrev pub infoAt : List ℕ → ℕ → EntryInfo
-infoAt s i = record { parent = keyIn s (i * stride + 2); name = nameAt s i }
+infoAt s i = record { parent = keyIn s (i * stride + 2); name = slotName s i }
 
 -- the words of a key, and those of an entry: its key, its parent, its name's source, offset and length
 abbrev pub keyWords : EntryKey → List ℕ
 keyWords k = k .entry ∷ k .sequence ∷ []
 
-abbrev pub entryWords : EntryKey → EntryInfo → List ℕ
-entryWords k e = keyWords k ++ keyWords (e .parent) ++ (e .name .source ∷ e .name .offset ∷ e .name .length ∷ [])
+abbrev pub slotWords : EntryKey → EntryInfo → List ℕ
+slotWords k e = keyWords k ++ keyWords (e .parent) ++ (e .name .source ∷ e .name .offset ∷ e .name .length ∷ [])
 
 -- the words with an entry in slot i
 unfoldable pub putAt : List ℕ → ℕ → EntryKey → EntryInfo → List ℕ
-putAt s i k e = sets s (i * stride) (entryWords k e)
+putAt s i k e = sets s (i * stride) (slotWords k e)
 
 -- the lowest of the n slots from i on that has the key k
 unfoldable pub findFrom : List ℕ → EntryKey → ℕ → ℕ → Found
@@ -63,4 +63,4 @@ rows f i (suc n) = f i ∷ rows f (i + 1) n
 
 -- where the names of the first n slots lie
 abbrev pub namesIn : List ℕ → ℕ → List NamePlace
-namesIn s n = rows (nameAt s) 0 n
+namesIn s n = rows (slotName s) 0 n

@@ -2,7 +2,7 @@
 ghost use mathlib.Core.Path.{_≡_};
 ghost use Prim.Native.Nat.{_+_, _*_, _≤_};
 ghost use lib.ListN.{length};
-ghost use Rattle.entry_slots.specs.Slots.{stride, sameKey, keyIn, keyAt, nameAt, infoAt, putAt};
+ghost use Rattle.entry_slots.specs.Slots.{stride, sameKey, keyIn, keyAt, slotName, infoAt, putAt};
 ghost use Rattle.entry_slots.specs.Table.{table, find};
 use crate::EntryInfo;
 use crate::EntryKey;
@@ -50,7 +50,7 @@ pub fn key_at(slots: &[u64], i: usize) -> EntryKey
 // Where the name of slot i lies.
 pub(crate) fn name_at(slots: &[u64], i: usize) -> NamePlace
     requires { ⌜ i * stride + stride ≤ length (now slots) ⌝ }
-    ensures { λ r. ⌜ r ≡ nameAt (now (slots .entry)) i ⌝ }
+    ensures { λ r. ⌜ r ≡ slotName (now (slots .entry)) i ⌝ }
 {
     let p = i * STRIDE + 4;
     NamePlace {

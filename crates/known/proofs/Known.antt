@@ -13,17 +13,17 @@ use Rattle.walk.specs.Lists.{All}
 use Rattle.walk.specs.Walk.{walk, from}
 use Rattle.walk.proofs.ChoiceLaws.{and-left, and-right}
 use Rattle.walk.proofs.WalkLaws.{all-append}
-use Rattle.usn_journal.specs.Scan.{kindByVersion, kindOf, visit, scanned}
+use Rattle.usn_journal.specs.Scan.{kindByVersion, kindOf, scanVisit, scanned}
 use Rattle.usn_journal.specs.Outcome.{scan}
-use Rattle.usn_carver.specs.Carve.{judged, visitAs, carving}
-use Rattle.usn_carver.specs.Carve.{visit as carverVisit}
+use Rattle.usn_carver.specs.Carve.{judged, carverVisitAs, carving}
+use Rattle.usn_carver.specs.Carve.{carverVisit}
 use Rattle.usn_reader.specs.Journal.{stepAt, steps, toCome}
 use Rattle.mft_attributes.specs.Filename.{replaces, keep}
 use Rattle.mft_attributes.specs.Attributes.{given, attributeAt, filenameIn}
-use Rattle.mft_attributes.specs.Attributes.{visit as attributeVisit}
+use Rattle.mft_attributes.specs.Attributes.{attributeVisit}
 use Rattle.mft_carver.specs.Entry.{hasSignature}
 use Rattle.mft_carver.specs.Entry.{judged as entryJudged}
-use Rattle.mft_carver.specs.Carve.{visit as imageVisit}
+use Rattle.mft_carver.specs.Carve.{imageVisit}
 use Rattle.utf16.specs.Utf16.{alone, codePoints}
 use Rattle.utf16.specs.Utf8.{utf8}
 use Rattle.utf16.specs.Text.{decoded}
@@ -45,22 +45,22 @@ same-eq (x ∷ xs) (y ∷ ys) e =
     cc
 
 -- a case is as known
-abbrev Holds : Case → Type 0
-Holds c = c .says ≡ c .known
+abbrev AsKnown : Case → Type 0
+AsKnown c = c .says ≡ c .known
 
 -- every case of a table that passes the test is
-all-right : (cs : List Case) → right cs ≡ true → All Holds cs
+all-right : (cs : List Case) → right cs ≡ true → All AsKnown cs
 all-right [] e = tt
 all-right (x ∷ cs) e =
     (same-eq (x .says) (x .known) (and-left (same (x .says) (x .known)) (right cs) e), all-right cs (and-right (same (x .says) (x .known)) (right cs) e))
 
-member : (cs : List Case) → All Holds cs → (c : Case) → List·Memᴰ c cs → Holds c
+member : (cs : List Case) → All AsKnown cs → (c : Case) → List·Memᴰ c cs → AsKnown c
 member [] h c m = absurd (List·Memᴰ·not-nil m)
 member (x ∷ cs) h c (List·Memᴰ·head q) = rw q (h .0)
 member (x ∷ cs) h c (List·Memᴰ·tail m) = member cs (h .1) c m
 
 computed : right computedCases ≡ true
-unfolding le leAt timestampOf referenceOf filenameOf recordOf parsed listed recordWords walk from kindByVersion kindOf visit scanned scan judged visitAs carverVisit carving stepAt steps toCome replaces keep given attributeAt filenameIn attributeVisit hasSignature entryJudged imageVisit alone codePoints utf8 decoded
+unfolding le leAt timestampOf referenceOf filenameOf recordOf parsed listed recordWords walk from kindByVersion kindOf scanVisit scanned scan judged carverVisitAs carverVisit carving stepAt steps toCome replaces keep given attributeAt filenameIn attributeVisit hasSignature entryJudged imageVisit alone codePoints utf8 decoded
 computed = refl
 
 -- the names of a deep path, as the laws of such paths have them
@@ -69,7 +69,7 @@ unfolding timesA names
 same-names zero = refl
 same-names (suc n) = ap (λ (s : List ℕ). 0x5C ∷ 0x61 ∷ s) (same-names n)
 
-deep : All Holds depths
+deep : All AsKnown depths
 deep = (
   nested-256 ∙ ap (λ (s : List ℕ). 0 ∷ 0x2E ∷ s) (same-names 256),
   (
@@ -78,8 +78,8 @@ deep = (
   ),
 )
 
-pub known : (c : Case) → List·Memᴰ c cases → Holds c
-known = member cases (all-append Holds computedCases depths (all-right computedCases computed) deep)
+pub known : (c : Case) → List·Memᴰ c cases → AsKnown c
+known = member cases (all-append AsKnown computedCases depths (all-right computedCases computed) deep)
 
 -- the rows of P1 to P10: what each is given, and what is known of it
 pub complete : rowsOf cases ≡ scopeRows

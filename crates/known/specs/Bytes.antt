@@ -46,8 +46,8 @@ abbrev pub entryHeader : ℕ → ℕ → List ℕ
 entryHeader sequence first = (0x46 ∷ 0x49 ∷ 0x4C ∷ 0x45 ∷ []) ++ replicate 12 0 ++ le 2 sequence ++ le 2 1 ++ le 2 first ++ le 2 3 ++ replicate 20 0
 
 -- a resident attribute of type 30h and 96 bytes with a content of 72 at 24: parent 5:5, and from 64 on a name of three units, its namespace, and abc
-abbrev pub named : ℕ → List ℕ
-named namespace =
+abbrev pub nameAttribute : ℕ → List ℕ
+nameAttribute namespace =
     le 4 0x30
     ++ le 4 96
     ++ replicate 8 0

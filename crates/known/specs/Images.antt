@@ -7,7 +7,7 @@ use Rattle.mft_carver.specs.Settings.{standard}
 use Rattle.mft_carver.specs.Carve.{entriesIn, statsIn, entryWords, statsWords}
 use Rattle.utf16.specs.Text.{decoded}
 use Rattle.known.specs.Case.{Case}
-use Rattle.known.specs.Bytes.{le, entryHeader, named, others, last, padded, entryOf}
+use Rattle.known.specs.Bytes.{le, entryHeader, nameAttribute, others, last, padded, entryOf}
 
 -- the counters of image carving: bytes, candidates, carved, rejected
 abbrev pub carveCounts : ℕ → List ℕ → List ℕ → List ℕ → Case
@@ -24,7 +24,7 @@ firstAt first from44 = padded (entryHeader 3 first ++ from44)
 -- P7: a first attribute at 47 is rejected, though an attribute with a name stands there; at 48 it is carved; at 1016 it is rejected, also after a
 -- name at 48. The number of the entry takes the bytes from 44 up to the name.
 abbrev pub begins : ℕ → ℕ → ℕ → List ℕ → Case
-begins of first width known = carveCounts of (first ∷ []) (firstAt first (le width 42 ++ named 1 ++ last)) known
+begins of first width known = carveCounts of (first ∷ []) (firstAt first (le width 42 ++ nameAttribute 1 ++ last)) known
 
 abbrev pub firstAttributes : List Case
 firstAttributes =
@@ -39,7 +39,7 @@ keeps name = 0 ∷ 42 ∷ 3 ∷ name ∷ 6 ∷ 5 ∷ 5 ∷ 1 ∷ 1 ∷ []
 
 -- two names of these namespaces, of which the first begins at 138 and the second at 234
 abbrev pub both : ℕ → ℕ → List ℕ
-both one two = entryOf (named one ++ named two)
+both one two = entryOf (nameAttribute one ++ nameAttribute two)
 
 -- P8: of two names one is kept
 abbrev pub ofBoth : ℕ → ℕ → List ℕ → Case
@@ -56,9 +56,9 @@ namespaces =
 -- 1023 bytes of an entry, and a name in the 21st attribute
 abbrev pub unseen : List Case
 unseen =
-    carveCounts 0 [] (take 1023 (entryOf (named 1))) (1023 ∷ 0 ∷ 0 ∷ 0 ∷ [])
-    ∷ carveCounts 0 [] (entryOf (others 19 ++ named 1)) (1024 ∷ 1 ∷ 1 ∷ 0 ∷ [])
-    ∷ carveCounts 0 [] (entryOf (others 20 ++ named 1)) (1024 ∷ 1 ∷ 0 ∷ 1 ∷ [])
+    carveCounts 0 [] (take 1023 (entryOf (nameAttribute 1))) (1023 ∷ 0 ∷ 0 ∷ 0 ∷ [])
+    ∷ carveCounts 0 [] (entryOf (others 19 ++ nameAttribute 1)) (1024 ∷ 1 ∷ 1 ∷ 0 ∷ [])
+    ∷ carveCounts 0 [] (entryOf (others 20 ++ nameAttribute 1)) (1024 ∷ 1 ∷ 0 ∷ 1 ∷ [])
     ∷ []
 
 -- P10: a lone surrogate, and a pair

@@ -5,12 +5,12 @@ use lib.ListN.{length, replicate}
 use Rattle.walk.specs.Lists.{flatten, placeWords}
 use Rattle.walk.specs.Outcome.{outcomeWords}
 use Rattle.walk.specs.Walk.{Visit, stop, go}
-use Rattle.usn_journal.specs.Scan.{visit, scanned}
+use Rattle.usn_journal.specs.Scan.{scanVisit, scanned}
 use Rattle.usn_journal.specs.Outcome.{scanAnswer}
 use Rattle.usn_carver.specs.Settings.{standard}
 use Rattle.usn_carver.specs.Events.{statsWords}
-use Rattle.usn_carver.specs.Carve.{recordsIn, statsIn, carving}
-use Rattle.usn_reader.specs.Journal.{Step, over, onto, stepAt, windowList}
+use Rattle.usn_carver.specs.Carve.{carvedPlaces, statsIn, carving}
+use Rattle.usn_reader.specs.Journal.{WindowStep, over, onto, stepAt, windowList}
 use Rattle.known.specs.Case.{Case}
 use Rattle.known.specs.Bytes.{header, timed, recordE}
 
@@ -22,7 +22,7 @@ abbrev pub windows : ℕ → List ℕ → List ℕ → List ℕ → Case
 windows of given s known = record { of = of; given = 2 ∷ given; says = flatten placeWords (windowList s); known = known }
 
 abbrev pub carves : ℕ → List ℕ → List ℕ → List ℕ → Case
-carves of given s known = record { of = of; given = 3 ∷ given; says = flatten placeWords (recordsIn standard s); known = known }
+carves of given s known = record { of = of; given = 3 ∷ given; says = flatten placeWords (carvedPlaces standard s); known = known }
 
 -- the counters of carving (4): bytes, candidates, carved, rejected for their time, rejected for their structure
 abbrev pub counts : ℕ → List ℕ → List ℕ → List ℕ → Case
@@ -43,7 +43,7 @@ abbrev pub visitNext : {A : Type 0} → Visit A → List ℕ
 visitNext stop = []
 visitNext (go es p) = p ∷ []
 
-abbrev pub stepNext : Step → List ℕ
+abbrev pub stepNext : WindowStep → List ℕ
 stepNext over = []
 stepNext (onto ps p e) = p ∷ []
 
@@ -52,7 +52,7 @@ abbrev pub rubbish : ℕ → ℕ → List ℕ
 rubbish n version = header n version ++ replicate 40 0
 
 abbrev pub scanMoves : ℕ → ℕ → ℕ → Case
-scanMoves n version to = record { of = 4; given = 1 ∷ n ∷ version ∷ []; says = visitNext (visit (rubbish n version) 0); known = to ∷ [] }
+scanMoves n version to = record { of = 4; given = 1 ∷ n ∷ version ∷ []; says = visitNext (scanVisit (rubbish n version) 0); known = to ∷ [] }
 
 abbrev pub windowMoves : ℕ → ℕ → ℕ → Case
 windowMoves n version to =

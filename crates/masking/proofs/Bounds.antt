@@ -15,11 +15,11 @@ use Rattle.usn_record.specs.Fields.{filenameOf}
 use Rattle.usn_record.specs.Record.{recordOf, parsed, listed}
 use Rattle.usn_record.specs.declared.UsnRecord.{UsnRecord}
 use Rattle.usn_record.specs.Sample.{sampleFixed}
-use Rattle.usn_journal.specs.Scan.{kindByVersion, kindOf, visit, scanned}
+use Rattle.usn_journal.specs.Scan.{kindByVersion, kindOf, scanVisit, scanned}
 use Rattle.usn_journal.specs.Outcome.{scan}
 use Rattle.usn_carver.specs.Settings.{standard}
 use Rattle.usn_carver.specs.Events.{structure, rejected, carved}
-use Rattle.usn_carver.specs.Carve.{judged, visitAs, carving, events, visit as carverVisit}
+use Rattle.usn_carver.specs.Carve.{judged, carverVisitAs, carving, events, carverVisit}
 use Rattle.usn_carver.specs.Masking.{nameOf}
 use Rattle.usn_carver.proofs.Examples.{overlap-first, overlap-masked}
 use Rattle.masking.specs.Demand.{imageNames, journalNames, SharedRecords, scanner, carver, scanPlaces, carverPlaces, Share}
@@ -35,11 +35,11 @@ abbrev wherever : List ℕ → List Place → List Place
 wherever journal places = placesOf (λ (p : Place). listedBy (λ (r : UsnRecord). placeFrom (p .offset) (r .filename) ∷ []) (listed journal (p .offset))) places
 
 reasoned-listed : scanPlaces (reasoned 0x100) list ≡ record { offset = 0; length = 60 } ∷ []
-unfolding scan scanned from walk visit kindOf kindByVersion leAt le
+unfolding scan scanned from walk scanVisit kindOf kindByVersion leAt le
 reasoned-listed = refl
 
 reasoned-name : wherever (reasoned 0x100) (scanPlaces (reasoned 0x100) list) ≡ record { offset = 40; length = 4 } ∷ []
-unfolding scan scanned from walk visit kindOf kindByVersion listed parsed recordOf filenameOf leAt le
+unfolding scan scanned from walk scanVisit kindOf kindByVersion listed parsed recordOf filenameOf leAt le
 reasoned-name = refl
 
 reasoned-masked : Masked (reasoned 0x100) (reasoned 0x1000) (wherever (reasoned 0x100) (scanPlaces (reasoned 0x100) list))
@@ -73,7 +73,7 @@ overlap = record { first = _; second = _; masks = overlap-masked }
 
 overlap-places : (carverPlaces (overlap .first) list ≡ record { offset = 8; length = 68 } ∷ [])
     × (carverPlaces (overlap .second) list ≡ record { offset = 0; length = 80 } ∷ [])
-unfolding carving from walk carverVisit visitAs judged leAt le
+unfolding carving from walk carverVisit carverVisitAs judged leAt le
 overlap-places = (refl, refl)
 
 overlap-carved : events standard (overlap .first) ≡ rejected structure 0 3 ∷ carved 8 2 68 ∷ []

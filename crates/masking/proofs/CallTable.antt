@@ -20,12 +20,12 @@ use Rattle.entry_slots.specs.Table.{table, addFound}
 use Rattle.additions.specs.Entries.{hasReason, entryFrom}
 use Rattle.additions.specs.Storing.{addAll, newKeys, adding, storing}
 use Rattle.chain.specs.Chain.{isRoot, chain}
-use Rattle.chain.specs.Tracing.{listed as listedChain}
+use Rattle.chain.specs.Tracing.{withPlaces}
 use Rattle.chain.specs.declared.ChainEnd.the-variants.{Root}
 use Rattle.path_text.specs.Text.{endText, placeText, stepText, pathText}
-use Rattle.rewind_records.specs.Environment.{refusalOf}
+use Rattle.rewind_records.specs.Environment.{rewindRefusal}
 use Rattle.rewind_records.specs.Turning.{ended, next, turning}
-use Rattle.rewind_steps.specs.Telling.{recordText}
+use Rattle.rewind_steps.specs.StepText.{recordText}
 use Rattle.rewind.specs.Starting.{starting}
 use Rattle.rewind.specs.Stepping.{stateOf}
 use Rattle.rewind_run.specs.Running.{runFrom}
@@ -146,7 +146,7 @@ afterwards =
     ∷ []
 
 pub computed : results source (map (λ (d : Done). d .call) (before ++ full ∷ afterwards)) (state empty 0 nines 3 9 eights) ≡ before ++ full ∷ afterwards
-unfolding stored startResult nextResult handed lent storing starting refusalOf turning adding addAll addFound putAt newKeys findFrom sameKey every inside rows hasReason entryFrom chain isRoot listedChain recordText pathText endText stepText placeText decoded codePoints alone utf8 unitsAt listed parsed recordOf referenceOf filenameOf leAt le
+unfolding stored startResult nextResult handed lent storing starting rewindRefusal turning adding addAll addFound putAt newKeys findFrom sameKey every inside rows hasReason entryFrom chain isRoot withPlaces recordText pathText endText stepText placeText decoded codePoints alone utf8 unitsAt listed parsed recordOf referenceOf filenameOf leAt le
 computed = refl
 
 -- the next that 8 refused is struck out, and no other
@@ -163,5 +163,5 @@ compared = (refl, refl)
 pub runs : (rooms journal image (source .records) 20 3 (runFrom entered (stateOf 3 0)) ≡ 20 ∷ 14 ∷ 8 ∷ [])
     × (rooms journal image (source .records) 20 3 (runFrom entered (stateOf 7 0)) ≡ 20 ∷ [])
     × (rooms journal image (source .records) 20 0 (runFrom entered (stateOf 3 0)) ≡ [])
-unfolding rooms refusalOf turning adding addAll addFound putAt newKeys findFrom sameKey every inside rows hasReason entryFrom chain isRoot listedChain recordText pathText endText stepText placeText decoded codePoints alone utf8 unitsAt listed parsed recordOf referenceOf filenameOf leAt le
+unfolding rooms rewindRefusal turning adding addAll addFound putAt newKeys findFrom sameKey every inside rows hasReason entryFrom chain isRoot withPlaces recordText pathText endText stepText placeText decoded codePoints alone utf8 unitsAt listed parsed recordOf referenceOf filenameOf leAt le
 runs = (refl, refl, refl)

@@ -18,7 +18,7 @@ use Rattle.rewind_steps.specs.Taking.{Step}
 use Rattle.rewind.specs.Promise.{startOut}
 use Rattle.rewind.specs.Starting.{Tables, begun, firstAfter, forwardAfter, startOutcome}
 use Rattle.rewind.specs.Stepping.{stepped, stepAnswer}
-use Rattle.rewind.specs.Telling.{told, toldAnswer}
+use Rattle.rewind.specs.Written.{steppedWithText, writtenAnswer}
 use Rattle.rewind.specs.declared.Started.{Started}
 use Rattle.rewind.specs.declared.Started.the-variants as started
 use Rattle.masking.specs.Calls.{Sources, kept, State, keptAt, rewindOf, step, stored, startResult, nextResult}
@@ -98,10 +98,10 @@ module _ (s : Sources) (st : State) (i : ℕ) where
   pub next-text-is : NextTextIs s st i
   unfolding nextResult
   next-text-is text r words′ list′ text′ h =
-      let o = told (s .journal) (s .image) (s .records) (keptAt i st .words) (rewindOf (keptAt i st)) (length text) in
+      let o = steppedWithText (s .journal) (s .image) (s .records) (keptAt i st .words) (rewindOf (keptAt i st)) (length text) in
       record { whole = refl; told-is = h .answer ∙ told-step o; leaves = rw (h .state, h .forward, h .places) refl }
     where
-      told-step : (o : Outcome (Next Step)) → toldAnswer (s .journal) (s .image) o ≡ mapOutcome (pathTextOf (s .journal) (s .image)) (mapOutcome step o)
+      told-step : (o : Outcome (Next Step)) → writtenAnswer (s .journal) (s .image) o ≡ mapOutcome (pathTextOf (s .journal) (s .image)) (mapOutcome step o)
       told-step (refused n) = refl
       told-step (answered x) = refl
 

@@ -17,14 +17,14 @@ use Rattle.usn_record.specs.Fields.{referenceOf, filenameOf}
 use Rattle.usn_record.specs.Names.{nameAt}
 use Rattle.usn_record.specs.Record.{recordOf, parsed, listed}
 use Rattle.usn_record.specs.Sample.{createdFixed, sampleRecord, recordE}
-use Rattle.usn_journal.specs.Scan.{kindByVersion, kindOf, visit, scanned}
+use Rattle.usn_journal.specs.Scan.{kindByVersion, kindOf, scanVisit, scanned}
 use Rattle.usn_journal.specs.Outcome.{scan, scanAnswer, scanList}
 use Rattle.usn_carver.specs.Settings.{standard}
 use Rattle.usn_carver.specs.Events.{carved}
-use Rattle.usn_carver.specs.Carve.{judged, visitAs, carving, carvingList, visit as carverVisit}
+use Rattle.usn_carver.specs.Carve.{judged, carverVisitAs, carving, carvingList, carverVisit}
 use Rattle.usn_carver.specs.Masking.{NoOverlap, IfAnswered}
 use Rattle.usn_carver.proofs.Examples.{E-carved}
-use Rattle.window_numbers.specs.Numbers.{windowSize, wrongEnd, wrongNumbers, refusalOf}
+use Rattle.window_numbers.specs.Numbers.{windowSize, wrongEnd, wrongNumbers, numbersRefusal}
 use Rattle.usn_reader.specs.Window.{wantedOf}
 use Rattle.usn_reader.specs.Rule.{namedFrom, byLength, turnOf, turns, searched}
 use Rattle.usn_reader.specs.Calls.{nextOf, giveRefusal, giveOf}
@@ -35,9 +35,9 @@ use Rattle.usn_reader.proofs.RunLaws.{journalReading, journalReadings, run-jour
 use Rattle.usn_reader.proofs.CountLaws.{delivery-carries}
 use Rattle.usn_reader.proofs.TwoRuns.{fresh-filled}
 use Rattle.mft_attributes.specs.Filename.{replaces, keep}
-use Rattle.mft_attributes.specs.Attributes.{given, attributeAt, filenameIn, visit as attributeVisit}
+use Rattle.mft_attributes.specs.Attributes.{given, attributeAt, filenameIn, attributeVisit}
 use Rattle.mft_carver.specs.Entry.{hasSignature, judged as entryJudged}
-use Rattle.mft_carver.specs.Carve.{visit as imageVisit, carving as imageCarving, carvingList as imageList}
+use Rattle.mft_carver.specs.Carve.{imageVisit, carving as imageCarving, carvingList as imageList}
 use Rattle.mft_carver.specs.Settings.{standard as imageStandard}
 use Rattle.mft_carver.specs.Masking.{carvedEntries}
 use Rattle.mft_carver.specs.Sample.{header, beforeName, abc, last}
@@ -51,17 +51,17 @@ use Rattle.additions.specs.Storing.{addAll, newKeys, adding}
 use Rattle.entry_slots.specs.declared.EntryKey.{EntryKey}
 use Rattle.entry_slots.specs.declared.NamePlace.{NamePlace}
 use Rattle.chain.specs.Chain.{isRoot, chain}
-use Rattle.chain.specs.Tracing.{inDomain, tracing, chainAfter, listed as listedChain}
+use Rattle.chain.specs.Tracing.{inDomain, tracing, chainAfter, withPlaces}
 use Rattle.path_text.specs.Text.{endText, placeText, stepText, pathText}
 use Rattle.path.specs.Alike.{Alike}
-use Rattle.path_text.specs.Decoding.{placing, decoding}
-use Rattle.path.specs.Telling.{telling}
+use Rattle.path_text.specs.Decoding.{placing, placeDecoding}
+use Rattle.path.specs.Written.{tracingWithText}
 use Rattle.additions.specs.Entries.{hasReason, entryFrom}
 use Rattle.walk.specs.Lists.{every}
-use Rattle.rewind_records.specs.Environment.{refusalOf as rewindRefusal}
+use Rattle.rewind_records.specs.Environment.{rewindRefusal}
 use Rattle.rewind.specs.Starting.{starting}
 use Rattle.rewind_records.specs.Turning.{turning}
-use Rattle.rewind_steps.specs.Telling.{recordText}
+use Rattle.rewind_steps.specs.StepText.{recordText}
 use Rattle.masking.specs.Calls.{sources, kept, State, keptAt, plain, nextText, start, Result, startResult, nextResult, Done, results, struck, plainsOf, resultsOf}
 use Rattle.masking.specs.Calls as call
 use Rattle.masking.specs.Demand.{imageNames, journalNames, SharedRecords, scanner, carver, window, scanPlaces, carverPlaces, windowPlaces, Share}
@@ -105,7 +105,7 @@ masked = masked-middle createdFixed (leBytes 2 0x61 ++ leBytes 2 0x62) (leBytes 
 
 -- the scan
 scan-names : journalNames journal (scanPlaces journal list) ≡ name
-unfolding scan scanned from walk visit kindOf kindByVersion nameAt listed parsed recordOf filenameOf leAt le
+unfolding scan scanned from walk scanVisit kindOf kindByVersion nameAt listed parsed recordOf filenameOf leAt le
 scan-names = refl
 
 pub scan-runs : Share (scanner list) journal journal′ (image abc) (image xyz) entries
@@ -113,7 +113,7 @@ scan-runs = names-decide-nothing .shares (scanner list) journal journal′ (imag
 
 -- the carver
 carver-names : journalNames journal (carverPlaces journal list) ≡ name
-unfolding carving from walk carverVisit visitAs judged nameAt listed parsed recordOf filenameOf leAt le
+unfolding carving from walk carverVisit carverVisitAs judged nameAt listed parsed recordOf filenameOf leAt le
 carver-names = refl
 
 lone : NoOverlap (carved 0 2 64 ∷ [])
@@ -133,13 +133,13 @@ abbrev calls : ℕ → List ℕ → List Call
 calls x s = next ∷ giveOther [] (x ∷ []) ∷ give s ∷ next ∷ next ∷ []
 
 given-one : givenBy (journalReadings journal (shapes (calls 7 journal)) (freshOver journal [] .window)) ≡ record { offset = 0; length = 64 } ∷ []
-unfolding journalReading nextOf giveOf giveRefusal refusalOf wantedOf wrongNumbers wrongEnd searched turns turnOf byLength namedFrom listed parsed recordOf filenameOf leAt le
+unfolding journalReading nextOf giveOf giveRefusal numbersRefusal wantedOf wrongNumbers wrongEnd searched turns turnOf byLength namedFrom listed parsed recordOf filenameOf leAt le
 given-one = refl
 
 module _ (x : ℕ) (s b : List ℕ) (es : length s ≡ 64) (eb : length b ≡ windowSize) where
   -- a journal of 64 bytes is owed from its first byte on, after a giving that was refused too
   waits : owedReached (next ∷ giveOther [] (x ∷ []) ∷ []) nothing (freshOver s b) .from ≡ 0
-  unfolding readingOf nextOf giveOf giveRefusal refusalOf wantedOf wrongNumbers wrongEnd searched turns turnOf
+  unfolding readingOf nextOf giveOf giveRefusal numbersRefusal wantedOf wrongNumbers wrongEnd searched turns turnOf
   waits = rw (eb, es) refl
 
   carries : Delivery s b (calls x s)
@@ -170,7 +170,7 @@ pub texts : (placeText journal (image abc) place ≡ 0x61 ∷ 0x62 ∷ []) × (p
 unfolding placeText decoded codePoints alone utf8 unitsAt leAt le
 texts = (refl, refl)
 
-pub decoded-in-one : (decoding journal (image abc) place 2 ≡ answered place) × (decoding journal′ (image xyz) place 2 ≡ refused textFull)
+pub decoded-in-one : (placeDecoding journal (image abc) place 2 ≡ answered place) × (placeDecoding journal′ (image xyz) place 2 ≡ refused textFull)
 unfolding placing inDomain inside placeText decoded codePoints alone utf8 unitsAt leAt le
 decoded-in-one = (refl, refl)
 
@@ -186,16 +186,16 @@ abbrev two : List Done
 two = results (sources journal′ (image xyz) (scanPlaces journal′ list)) (plain (start 0 1) ∷ nextText 1 4 ∷ nextText 1 6 ∷ []) empty
 
 left-one : plainsOf (struck one) ≡ start 0 1 ∷ call.next 1 ∷ []
-unfolding scan scanned from walk visit kindOf kindByVersion startResult nextResult starting rewindRefusal turning adding addAll addFound putAt newKeys findFrom sameKey every inside rows hasReason entryFrom chain isRoot listedChain recordText pathText endText stepText placeText decoded codePoints alone utf8 unitsAt listed parsed recordOf referenceOf filenameOf leAt le
+unfolding scan scanned from walk scanVisit kindOf kindByVersion startResult nextResult starting rewindRefusal turning adding addAll addFound putAt newKeys findFrom sameKey every inside rows hasReason entryFrom chain isRoot withPlaces recordText pathText endText stepText placeText decoded codePoints alone utf8 unitsAt listed parsed recordOf referenceOf filenameOf leAt le
 left-one = refl
 
 left-two : plainsOf (struck two) ≡ start 0 1 ∷ call.next 1 ∷ []
-unfolding scan scanned from walk visit kindOf kindByVersion startResult nextResult starting rewindRefusal turning adding addAll addFound putAt newKeys findFrom sameKey every inside rows hasReason entryFrom chain isRoot listedChain recordText pathText endText stepText placeText decoded codePoints alone utf8 unitsAt listed parsed recordOf referenceOf filenameOf leAt le
+unfolding scan scanned from walk scanVisit kindOf kindByVersion startResult nextResult starting rewindRefusal turning adding addAll addFound putAt newKeys findFrom sameKey every inside rows hasReason entryFrom chain isRoot withPlaces recordText pathText endText stepText placeText decoded codePoints alone utf8 unitsAt listed parsed recordOf referenceOf filenameOf leAt le
 left-two = refl
 
 -- in run one the start stands before the first record, and the next is past it
 pub positions : map (λ (r : Result). keptAt 1 (r .after) .position) (resultsOf (struck one)) ≡ 0 ∷ 1 ∷ []
-unfolding scan scanned from walk visit kindOf kindByVersion startResult nextResult starting rewindRefusal turning adding addAll addFound putAt newKeys findFrom sameKey every inside rows hasReason entryFrom chain isRoot listedChain recordText pathText endText stepText placeText decoded codePoints alone utf8 unitsAt listed parsed recordOf referenceOf filenameOf leAt le
+unfolding scan scanned from walk scanVisit kindOf kindByVersion startResult nextResult starting rewindRefusal turning adding addAll addFound putAt newKeys findFrom sameKey every inside rows hasReason entryFrom chain isRoot withPlaces recordText pathText endText stepText placeText decoded codePoints alone utf8 unitsAt listed parsed recordOf referenceOf filenameOf leAt le
 positions = refl
 
 -- and what is left of run two is the same, though it took a call more
@@ -212,7 +212,7 @@ pub scan-written : (scanAnswer journal′ 2 ≡ scanAnswer journal 2) × ((scanL
 scan-written = (scan-runs .reader .answer, (scan-runs .reader .words, scan-runs .listed-same))
 
 scan-listed : scanPlaces journal list ≡ record { offset = 0; length = 64 } ∷ []
-unfolding scan scanned from walk visit kindOf kindByVersion leAt le
+unfolding scan scanned from walk scanVisit kindOf kindByVersion leAt le
 scan-listed = refl
 
 pub record-written : listed journal′ 0 ≡ listed journal 0
@@ -223,11 +223,11 @@ pub carver-written : (carving standard journal′ 2 ≡ carving standard journal
 carver-written = (carver-runs .reader .answer, (carver-runs .reader .words, carver-runs .listed-same))
 
 module _ (u : Table) (depth : ℕ) (k : EntryKey) where
-  pub path-written : (room room′ : ℕ) → Alike (tracing (lengths 64 1024) u depth k) (telling journal (image abc) u depth k room) (telling journal′ (image xyz) u depth k room′)
+  pub path-written : (room room′ : ℕ) → Alike (tracing (lengths 64 1024) u depth k) (tracingWithText journal (image abc) u depth k room) (tracingWithText journal′ (image xyz) u depth k room′)
   path-written room room′ = scan-runs .later .path u depth k room room′
 
   pub chain-written : (l : List ℕ) → chainAfter (tracing (lengthsOf journal′ (image xyz)) u depth k) l ≡ chainAfter (tracing (lengthsOf journal (image abc)) u depth k) l
   chain-written l = scan-runs .later .chainList u depth k l
 
-pub decode-written : (p : NamePlace) (room room′ : ℕ) → Alike (placing (lengths 64 1024) p) (decoding journal (image abc) p room) (decoding journal′ (image xyz) p room′)
+pub decode-written : (p : NamePlace) (room room′ : ℕ) → Alike (placing (lengths 64 1024) p) (placeDecoding journal (image abc) p room) (placeDecoding journal′ (image xyz) p room′)
 decode-written p room room′ = scan-runs .later .decode p room room′

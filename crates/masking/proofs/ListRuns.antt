@@ -20,23 +20,23 @@ use Rattle.entry_slots.specs.Table.{Table, table, addFound}
 use Rattle.additions.specs.Entries.{hasReason, entryFrom}
 use Rattle.additions.specs.Storing.{addAll, newKeys, adding, storing}
 use Rattle.chain.specs.Chain.{isRoot, chain}
-use Rattle.chain.specs.Tracing.{listed as listedChain, inDomain}
+use Rattle.chain.specs.Tracing.{withPlaces, inDomain}
 use Rattle.chain.specs.declared.ChainEnd.the-variants.{Root}
 use Rattle.path_text.specs.Text.{endText, placeText, stepText, pathText}
-use Rattle.rewind_records.specs.Environment.{refusalOf as rewindRefusal}
+use Rattle.rewind_records.specs.Environment.{rewindRefusal}
 use Rattle.rewind_records.specs.Turning.{ended, next, turning}
-use Rattle.rewind_steps.specs.Telling.{recordText}
+use Rattle.rewind_steps.specs.StepText.{recordText}
 use Rattle.rewind.specs.Starting.{starting}
 use Rattle.walk.specs.Masked.{Masked}
 use Rattle.walk.specs.Walk.{walk, from}
 use Rattle.walk.proofs.MaskedLaws.{masked-middle}
 use Rattle.usn_record.specs.Names.{nameAt}
-use Rattle.usn_journal.specs.Scan.{kindByVersion, kindOf, visit, scanned}
+use Rattle.usn_journal.specs.Scan.{kindByVersion, kindOf, scanVisit, scanned}
 use Rattle.usn_journal.specs.Outcome.{scan}
 use Rattle.mft_attributes.specs.Filename.{replaces, keep}
-use Rattle.mft_attributes.specs.Attributes.{given, attributeAt, filenameIn, visit as attributeVisit}
+use Rattle.mft_attributes.specs.Attributes.{given, attributeAt, filenameIn, attributeVisit}
 use Rattle.mft_carver.specs.Entry.{hasSignature, judged as entryJudged}
-use Rattle.mft_carver.specs.Carve.{visit as imageVisit, carving as imageCarving}
+use Rattle.mft_carver.specs.Carve.{imageVisit, carving as imageCarving}
 use Rattle.mft_carver.specs.Sample.{header as entryHeader, beforeName, last}
 use Rattle.mft_carver.specs.Settings.{standard as imageStandard}
 use Rattle.mft_carver.specs.Carve.{carvingList as imageList}
@@ -45,7 +45,7 @@ use Rattle.usn_journal.specs.Outcome.{scanAnswer}
 use Rattle.chain.specs.Chain.{Chain}
 use Rattle.chain.specs.Settings.{depth}
 use Rattle.chain.specs.Tracing.{tracing}
-use Rattle.path.specs.Telling.{telling}
+use Rattle.path.specs.Written.{tracingWithText}
 use Rattle.masking.specs.Calls.{sources, kept, State, Call, plain, nextText, Plain, insert, seed, start, begun, step, Result, stored, startResult, nextResult, Done, results, struck, plainsOf, resultsOf}
 use Rattle.masking.specs.Calls as call
 use Rattle.masking.specs.Demand.{journalNames, imageNames, scanner, scanPlaces, Share}
@@ -65,13 +65,13 @@ abbrev journal′ : List ℕ
 journal′ = front ++ units 0x63 0x20AC
 
 -- folder 42:3 stands in the image, named abc, or a euro sign and yz in run two
-abbrev named : List ℕ
-named = image (units3 0x61 0x62 0x63)
+abbrev namedImage : List ℕ
+namedImage = image (units3 0x61 0x62 0x63)
 
 abbrev named′ : List ℕ
 named′ = image (units3 0x20AC 0x79 0x7A)
 
-images-masked : Masked named named′ (imageNames named entries)
+images-masked : Masked namedImage named′ (imageNames namedImage entries)
 images-masked = rw image-names (masked-middle (entryHeader 3 48 ++ leBytes 4 42 ++ beforeName 1) (units3 0x61 0x62 0x63) (units3 0x20AC 0x79 0x7A) (last ++ replicate 876 0) refl)
 
 -- the scan with a list of two records
@@ -79,7 +79,7 @@ abbrev list : List ℕ
 list = replicate 4 0
 
 scan-names : journalNames journal (scanPlaces journal list) ≡ record { offset = 60; length = 4 } ∷ record { offset = 140; length = 4 } ∷ []
-unfolding scan scanned from walk visit kindOf kindByVersion nameAt listed parsed recordOf filenameOf leAt le
+unfolding scan scanned from walk scanVisit kindOf kindByVersion nameAt listed parsed recordOf filenameOf leAt le
 scan-names = refl
 
 masked : Masked journal journal′ (record { offset = 60; length = 4 } ∷ record { offset = 140; length = 4 } ∷ [])
@@ -87,14 +87,14 @@ masked =
     one-more journal journal′ (record { offset = 60; length = 4 }) (record { offset = 140; length = 4 } ∷ [])
     (masked-middle front (units 0x63 0x64) (units 0x63 0x20AC) [] refl)
 
-pub scan-runs : Share (scanner list) journal journal′ named named′ entries
-scan-runs = names-decide-nothing .shares (scanner list) journal journal′ named named′ entries (record { images = images-masked; journals = rw scan-names masked; asked = tt })
+pub scan-runs : Share (scanner list) journal journal′ namedImage named′ entries
+scan-runs = names-decide-nothing .shares (scanner list) journal journal′ namedImage named′ entries (record { images = images-masked; journals = rw scan-names masked; asked = tt })
 
 -- what the image carver lists of it, in both runs
 abbrev carved : List ℕ
 carved = 0 ∷ 42 ∷ 3 ∷ 138 ∷ 6 ∷ 5 ∷ 5 ∷ 1 ∷ 1 ∷ []
 
-pub carved-list : imageList imageStandard named entries ≡ carved
+pub carved-list : imageList imageStandard namedImage entries ≡ carved
 unfolding imageCarving from walk imageVisit hasSignature entryJudged filenameIn attributeVisit attributeAt given keep replaces referenceOf leAt le
 carved-list = refl
 
@@ -117,7 +117,7 @@ abbrev empty : State
 empty = record { tables = kept (replicate 28 0) 0 0 ∷ kept (replicate 28 9) 0 0 ∷ []; chain = replicate 3 0 }
 
 abbrev one : List Done
-one = results (sources journal named (scanPlaces journal list)) cs empty
+one = results (sources journal namedImage (scanPlaces journal list)) cs empty
 
 abbrev two : List Done
 two = results (sources journal′ named′ (scanPlaces journal′ list)) ds empty
@@ -126,11 +126,11 @@ abbrev asked : List Plain
 asked = insert 0 (key 10 0) (info 1 138 6) ∷ seed 0 carved ∷ start 0 1 ∷ call.next 1 ∷ call.next 1 ∷ []
 
 left-one : plainsOf (struck one) ≡ asked
-unfolding scan scanned from walk visit kindOf kindByVersion stored startResult nextResult storing starting rewindRefusal turning adding addAll addFound putAt newKeys findFrom sameKey every inside rows hasReason entryFrom chain isRoot listedChain recordText pathText endText stepText placeText decoded codePoints alone utf8 unitsAt listed parsed recordOf referenceOf filenameOf leAt le
+unfolding scan scanned from walk scanVisit kindOf kindByVersion stored startResult nextResult storing starting rewindRefusal turning adding addAll addFound putAt newKeys findFrom sameKey every inside rows hasReason entryFrom chain isRoot withPlaces recordText pathText endText stepText placeText decoded codePoints alone utf8 unitsAt listed parsed recordOf referenceOf filenameOf leAt le
 left-one = refl
 
 left-two : plainsOf (struck two) ≡ asked
-unfolding scan scanned from walk visit kindOf kindByVersion stored startResult nextResult storing starting rewindRefusal turning adding addAll addFound putAt newKeys findFrom sameKey every inside rows hasReason entryFrom chain isRoot listedChain recordText pathText endText stepText placeText decoded codePoints alone utf8 unitsAt listed parsed recordOf referenceOf filenameOf leAt le
+unfolding scan scanned from walk scanVisit kindOf kindByVersion stored startResult nextResult storing starting rewindRefusal turning adding addAll addFound putAt newKeys findFrom sameKey every inside rows hasReason entryFrom chain isRoot withPlaces recordText pathText endText stepText placeText decoded codePoints alone utf8 unitsAt listed parsed recordOf referenceOf filenameOf leAt le
 left-two = refl
 
 -- the results that are left are the same, though run two took a call more
@@ -140,7 +140,7 @@ shared-results = scan-runs .later .calls empty cs ds (left-two ∙ sym left-one)
 -- after each of them the chain list of run one: the chain of either record is a folder whose name lies in the image
 pub chains : map (λ (r : Result). r .after .chain) (resultsOf (struck one))
     ≡ replicate 3 0 ∷ replicate 3 0 ∷ replicate 3 0 ∷ (1 ∷ 138 ∷ 6 ∷ []) ∷ (1 ∷ 138 ∷ 6 ∷ []) ∷ []
-unfolding scan scanned from walk visit kindOf kindByVersion stored startResult nextResult storing starting rewindRefusal turning adding addAll addFound putAt newKeys findFrom sameKey every inside rows hasReason entryFrom chain isRoot listedChain recordText pathText endText stepText placeText decoded codePoints alone utf8 unitsAt listed parsed recordOf referenceOf filenameOf leAt le
+unfolding scan scanned from walk scanVisit kindOf kindByVersion stored startResult nextResult storing starting rewindRefusal turning adding addAll addFound putAt newKeys findFrom sameKey every inside rows hasReason entryFrom chain isRoot withPlaces recordText pathText endText stepText placeText decoded codePoints alone utf8 unitsAt listed parsed recordOf referenceOf filenameOf leAt le
 chains = refl
 
 -- The path of the carved folder, in a table of one slot: its text is the image's name, five bytes in run one and seven in run two, where 8 refuses it.
@@ -150,13 +150,13 @@ seeded = table (42 ∷ 3 ∷ 5 ∷ 5 ∷ 1 ∷ 138 ∷ 6 ∷ []) 1
 abbrev folder : Chain
 folder = record { places = placed 1 138 6 ∷ []; end = Root }
 
-pub path-texts : (pathText journal named folder ≡ 0x2E ∷ 0x5C ∷ 0x61 ∷ 0x62 ∷ 0x63 ∷ [])
+pub path-texts : (pathText journal namedImage folder ≡ 0x2E ∷ 0x5C ∷ 0x61 ∷ 0x62 ∷ 0x63 ∷ [])
     × (pathText journal′ named′ folder ≡ 0x2E ∷ 0x5C ∷ 0xE2 ∷ 0x82 ∷ 0xAC ∷ 0x79 ∷ 0x7A ∷ [])
 unfolding pathText endText stepText placeText decoded codePoints alone utf8 unitsAt leAt le
 path-texts = (refl, refl)
 
-pub path-in-one : (telling journal named seeded depth (key 42 3) 5 ≡ answered folder)
-    × (telling journal′ named′ seeded depth (key 42 3) 5 ≡ refused textFull)
+pub path-in-one : (tracingWithText journal namedImage seeded depth (key 42 3) 5 ≡ answered folder)
+    × (tracingWithText journal′ named′ seeded depth (key 42 3) 5 ≡ refused textFull)
 unfolding tracing inDomain every inside rows findFrom sameKey chain isRoot pathText endText stepText placeText decoded codePoints alone utf8 unitsAt leAt le
 path-in-one = (refl, refl)
 
@@ -165,14 +165,14 @@ abbrev refusedReader : List Done
 refusedReader = results (sources journal named′ (scanPlaces journal [])) (plain (start 0 1) ∷ nextText 1 0 ∷ []) empty
 
 pub reader-refused : (scanAnswer journal 0 ≡ refused listFull) × (scanPlaces journal [] ≡ [])
-unfolding scan scanned from walk visit kindOf kindByVersion leAt le
+unfolding scan scanned from walk scanVisit kindOf kindByVersion leAt le
 reader-refused = (refl, refl)
 
-pub refused-runs : Share (scanner []) journal journal named named′ entries
+pub refused-runs : Share (scanner []) journal journal namedImage named′ entries
 refused-runs =
-    names-decide-nothing .shares (scanner []) journal journal named named′ entries
+    names-decide-nothing .shares (scanner []) journal journal namedImage named′ entries
     (record { images = images-masked; journals = unchanged journal (journalNames journal (scanPlaces journal [])); asked = tt })
 
 pub at-the-end : map (λ (d : Done). d .result .outcome) refusedReader ≡ answered (begun (record { used = 0; position = 0 })) ∷ answered (step ended) ∷ []
-unfolding scan scanned from walk visit kindOf kindByVersion stored startResult nextResult storing starting rewindRefusal turning adding addAll addFound putAt newKeys findFrom sameKey every inside rows hasReason entryFrom chain isRoot listedChain recordText pathText endText stepText placeText decoded codePoints alone utf8 unitsAt listed parsed recordOf referenceOf filenameOf leAt le
+unfolding scan scanned from walk scanVisit kindOf kindByVersion stored startResult nextResult storing starting rewindRefusal turning adding addAll addFound putAt newKeys findFrom sameKey every inside rows hasReason entryFrom chain isRoot withPlaces recordText pathText endText stepText placeText decoded codePoints alone utf8 unitsAt listed parsed recordOf referenceOf filenameOf leAt le
 at-the-end = refl

@@ -8,7 +8,7 @@ use Rattle.usn_record.specs.Fields.{filenameOf}
 use Rattle.usn_record.specs.Names.{nameAt}
 use Rattle.usn_record.specs.Record.{recordOf, parsed, listed}
 use Rattle.usn_record.specs.Sample.{sampleRecord}
-use Rattle.window_numbers.specs.Numbers.{windowSize, wrongEnd, wrongNumbers, refusalOf}
+use Rattle.window_numbers.specs.Numbers.{windowSize, wrongEnd, wrongNumbers, numbersRefusal}
 use Rattle.usn_reader.specs.Window.{wantedOf}
 use Rattle.usn_reader.specs.Rule.{namedFrom, byLength, turnOf, turns, searched}
 use Rattle.usn_reader.specs.Calls.{nextOf, giveRefusal, giveOf}
@@ -29,7 +29,7 @@ abbrev pieces : List ℕ → List Call
 pieces s = next ∷ give (take 1 s) ∷ give (drop 1 s) ∷ next ∷ next ∷ []
 
 given-one : givenBy (journalReadings journal (shapes (pieces journal)) (freshOver journal [] .window)) ≡ record { offset = 0; length = 64 } ∷ []
-unfolding journalReading nextOf giveOf giveRefusal refusalOf wantedOf wrongNumbers wrongEnd searched turns turnOf byLength namedFrom listed parsed recordOf filenameOf leAt le
+unfolding journalReading nextOf giveOf giveRefusal numbersRefusal wantedOf wrongNumbers wrongEnd searched turns turnOf byLength namedFrom listed parsed recordOf filenameOf leAt le
 given-one = refl
 
 -- a record whose name has any first unit
@@ -39,11 +39,11 @@ module _ (a : ℕ) (b : List ℕ) (eb : length b ≡ windowSize) where
 
   -- the journal is owed from its first byte on, and then from its second
   owed : owedReached (next ∷ []) nothing (freshOver whole b) .from ≡ 0
-  unfolding readingOf nextOf refusalOf wantedOf wrongNumbers wrongEnd searched turns turnOf
+  unfolding readingOf nextOf numbersRefusal wantedOf wrongNumbers wrongEnd searched turns turnOf
   owed = rw eb refl
 
   owed-on : owedReached (next ∷ give (take 1 whole) ∷ []) nothing (freshOver whole b) .from ≡ 1
-  unfolding readingOf bufferOf nextOf giveOf giveRefusal refusalOf wantedOf wrongNumbers wrongEnd searched turns turnOf
+  unfolding readingOf bufferOf nextOf giveOf giveRefusal numbersRefusal wantedOf wrongNumbers wrongEnd searched turns turnOf
   owed-on = rw eb refl
 
   carries : Delivery whole b (pieces whole)

@@ -19,7 +19,7 @@ use Rattle.rewind.specs.Starting.{starting}
 use Rattle.rewind_records.specs.Turning.{Next}
 use Rattle.rewind_steps.specs.Taking.{Step}
 use Rattle.rewind.specs.Stepping.{forwardTable, stepping, stepped}
-use Rattle.rewind_steps.specs.Telling.{nextText as textOf}
+use Rattle.rewind_steps.specs.StepText.{nextText as textOf}
 use Rattle.masking.specs.Calls.{Sources, State, keptAt, tableOf, rewindOf, Plain, insert, insertIfAbsent, seed, start, next, hand, lend, Call, plain, nextText, Result, stored, startResult, nextResult, handed, lent, plainResult, Done, results, struck, plainsOf, resultsOf}
 use Rattle.masking.proofs.CallLaws.{next-stays}
 

@@ -14,9 +14,9 @@ use Rattle.walk.proofs.ChoiceLaws.{cond-cases}
 use Rattle.entry_slots.specs.Table.{table}
 use Rattle.rewind_records.specs.Turning.{Next, ended, next}
 use Rattle.rewind_steps.specs.Taking.{Step}
-use Rattle.rewind_steps.specs.Telling.{recordText}
-use Rattle.rewind.specs.Telling.{told}
-use Rattle.chain.specs.Tracing.{listed}
+use Rattle.rewind_steps.specs.StepText.{recordText}
+use Rattle.rewind.specs.Written.{steppedWithText}
+use Rattle.chain.specs.Tracing.{withPlaces}
 use Rattle.chain.specs.Chain.{chainWords}
 use Rattle.entry_slots.specs.declared.NamePlace.{NamePlace}
 use Rattle.rewind_run.specs.Running.{Run, runFrom, oneMore, onward, running}
@@ -27,8 +27,8 @@ use Rattle.masking.proofs.CallLaws.{next-stays}
 use Rattle.masking.proofs.ContractLaws.{same-kept}
 
 -- a chain list of no words stays so
-none-listed : (ps : List NamePlace) → listed [] ps ≡ []
-unfolding listed
+none-listed : (ps : List NamePlace) → withPlaces [] ps ≡ []
+unfolding withPlaces
 none-listed [] = refl
 none-listed (p ∷ ps) =
     cond-cases (λ (l : List ℕ). l ≡ []) (leb (length (chainWords (p ∷ ps))) 0)
@@ -44,7 +44,7 @@ module _ (s : Sources) (tables : List Kept) (i : ℕ) (inside : i < length table
   stands q = getD-set-same tables i (kept (q .words) (q .rewind .used) (q .rewind .position)) (kept [] 0 0) inside
 
   abbrev toldFrom : Run → Outcome (Next Step)
-  toldFrom q = told (s .journal) (s .image) (s .records) (q .words) (q .rewind) (room - length (q .text))
+  toldFrom q = steppedWithText (s .journal) (s .image) (s .records) (q .words) (q .rewind) (room - length (q .text))
 
   abbrev run : ℕ → Run → Run
   run = running (s .journal) (s .image) (s .records) room
@@ -88,7 +88,7 @@ module _ (s : Sources) (tables : List Kept) (i : ℕ) (inside : i < length table
   goes (suc n) q e =
       let m = room - length (q .text) in
       let f : resultOf s (nextText i m) (stand q) ≡ nextResult i (stand q) (toldFrom q) =
-      ap (λ (k : Kept). nextResult i (stand q) (told (s .journal) (s .image) (s .records) (k .words) (rewindOf k) m)) (stands q) in
+      ap (λ (k : Kept). nextResult i (stand q) (steppedWithText (s .journal) (s .image) (s .records) (k .words) (rewindOf k) m)) (stands q) in
       let cs = nexts (roomsOn (rooms (s .journal) (s .image) (s .records) room n) (s .journal) (s .image) q (toldFrom q)) in
       let g : Goes q (run (suc n) q) cs (resultOf s (nextText i m) (stand q)) = rw f (by-one n q (toldFrom q) e (goes n)) in
       record { gives = g .gives; refuses = g .refuses; leaves = g .leaves }

@@ -20,7 +20,7 @@ use Rattle.rewind.specs.Starting.{Tables, started, firstAfter, forwardAfter, be
 use Rattle.rewind_records.specs.Turning.{Next}
 use Rattle.rewind_steps.specs.Taking.{Step}
 use Rattle.rewind.specs.Stepping.{stepped, rewindAfter, wordsAfter, chainAfter}
-use Rattle.rewind.specs.Telling.{told}
+use Rattle.rewind.specs.Written.{steppedWithText}
 use Rattle.rewind.specs.declared.Rewind.{Rewind}
 
 -- what the calls of a run read: its journal, its image, and its reader's list of records, as words
@@ -151,7 +151,7 @@ plainResult s (lend l) st = lent l st
 -- any call
 abbrev pub resultOf : Sources → Call → State → Result
 resultOf s (plain p) st = plainResult s p st
-resultOf s (nextText i room) st = nextResult i st (told (s .journal) (s .image) (s .records) (keptAt i st .words) (rewindOf (keptAt i st)) room)
+resultOf s (nextText i room) st = nextResult i st (steppedWithText (s .journal) (s .image) (s .records) (keptAt i st .words) (rewindOf (keptAt i st)) room)
 
 -- a call with its result
 pub record Done : Type 0 where

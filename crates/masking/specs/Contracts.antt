@@ -26,8 +26,8 @@ use Rattle.rewind_records.specs.Turning.{Next, ended, mapNext}
 use Rattle.rewind_records.specs.Turning as turning
 use Rattle.rewind_steps.specs.Taking.{Step}
 use Rattle.rewind.specs.Stepping.{stateOf, outcome as chainOutcome}
-use Rattle.rewind.specs.Telling.{told, toldOf, toldOutcome}
-use Rattle.path.specs.Telling.{Told}
+use Rattle.rewind.specs.Written.{steppedWithText, writtenStep, writtenOutcome}
+use Rattle.path.specs.Written.{WrittenPath}
 use Rattle.rewind.specs.Promise.{Starts, chainOut, ChainSteps, PathSteps}
 use Rattle.rewind.specs.Starting.{startOutcome}
 use Rattle.rewind.specs.declared.Rewind.{Rewind}
@@ -67,8 +67,8 @@ nextOf nothing = ended
 abbrev pub pathOf : Answer → Next ResolvedPath
 pathOf a = mapNext (λ (x : Step). resolved (x .chain)) (nextOf a)
 
-abbrev pub pathTextOf : List ℕ → List ℕ → Answer → Next Told
-pathTextOf journal image a = mapNext (toldOf journal image) (nextOf a)
+abbrev pub pathTextOf : List ℕ → List ℕ → Answer → Next WrittenPath
+pathTextOf journal image a = mapNext (writtenStep journal image) (nextOf a)
 
 -- how many records the calls of a list give, and the refusal of the first one that is refused, or 0
 abbrev pub recordsBy : Outcome Answer → ℕ
@@ -167,11 +167,11 @@ module _ (s : Sources) (st : State) (i : ℕ) where
 
   -- a next with text
   abbrev toldIn : ℕ → Outcome (Next Step)
-  toldIn room = told (s .journal) (s .image) (s .records) (here .words) rewind room
+  toldIn room = steppedWithText (s .journal) (s .image) (s .records) (here .words) rewind room
 
   pub record NextTextAs (room : ℕ) (r : PathStep) (words′ list′ : List ℕ) (x : Result) : Type 0 where
     pub whole : x .outcome ≡ mapOutcome step (toldIn room)
-    pub told-is : toldOutcome (r .next) ≡ mapOutcome (pathTextOf (s .journal) (s .image)) (x .outcome)
+    pub told-is : writtenOutcome (r .next) ≡ mapOutcome (pathTextOf (s .journal) (s .image)) (x .outcome)
     pub leaves : x .after ≡ nextLeaves (r .rewind) words′ list′
 
   abbrev pub NextTextIs : Type 0

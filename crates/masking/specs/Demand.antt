@@ -30,8 +30,8 @@ use Rattle.entry_slots.specs.declared.EntryKey.{EntryKey}
 use Rattle.entry_slots.specs.declared.NamePlace.{NamePlace}
 use Rattle.chain.specs.Tracing.{tracing, chainAfter}
 use Rattle.path.specs.Alike.{Alike}
-use Rattle.path_text.specs.Decoding.{placing, decoding}
-use Rattle.path.specs.Telling.{telling}
+use Rattle.path_text.specs.Decoding.{placing, placeDecoding}
+use Rattle.path.specs.Written.{tracingWithText}
 use Rattle.masking.specs.Calls.{Sources, sources, State, Call, resultOf, results, isStruck, struck, plainsOf, resultsOf}
 use Rattle.masking.specs.Contracts.{ListsAreCalls}
 
@@ -69,14 +69,14 @@ pub record Shared (s t : Sources) : Type 0 where
   pub strikes′ : Strikes t
   -- a path, with any two texts: refused the same, or both have the one chain with its end, unless 8 refuses it
   pub path : (u : Table) (depth : ℕ) (k : EntryKey) (room room′ : ℕ)
-      → Alike (tracing (lengthsOf (s .journal) (s .image)) u depth k) (telling (s .journal) (s .image) u depth k room) (telling (t .journal) (t .image) u depth k room′)
+      → Alike (tracing (lengthsOf (s .journal) (s .image)) u depth k) (tracingWithText (s .journal) (s .image) u depth k room) (tracingWithText (t .journal) (t .image) u depth k room′)
   -- a chain without text: the same outcome, and the same words in its list
   pub chain : (u : Table) (depth : ℕ) (k : EntryKey) → tracing (lengthsOf (t .journal) (t .image)) u depth k ≡ tracing (lengthsOf (s .journal) (s .image)) u depth k
   pub chainList : (u : Table) (depth : ℕ) (k : EntryKey) (l : List ℕ)
       → chainAfter (tracing (lengthsOf (t .journal) (t .image)) u depth k) l ≡ chainAfter (tracing (lengthsOf (s .journal) (s .image)) u depth k) l
   -- a name's text, with any two texts: refused the same, or answered in both, unless 8 refuses it
   pub decode : (p : NamePlace) (room room′ : ℕ)
-      → Alike (placing (lengthsOf (s .journal) (s .image)) p) (decoding (s .journal) (s .image) p room) (decoding (t .journal) (t .image) p room′)
+      → Alike (placing (lengthsOf (s .journal) (s .image)) p) (placeDecoding (s .journal) (s .image) p room) (placeDecoding (t .journal) (t .image) p room′)
 
 -- The reader at hand: the scan or the carver, with a list, or the window, with a buffer and a list of its calls in each run.
 pub data Reader : Type 0 where

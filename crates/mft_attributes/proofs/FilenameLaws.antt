@@ -7,9 +7,9 @@ use mathlib.Core.Bool.{Bool, true, false, not}
 use native.Mathlib.Omega.{arith}
 use lib.Dec.{eqb}
 use borrow.Author.Tests.{ne-eqb}
-use Rattle.walk.specs.Walk.{Visit, after, walk}
+use Rattle.walk.specs.Walk.{Visit, goingOn, walk}
 use Rattle.mft_attributes.specs.Filename.{win32, dos, win32AndDos, replaces, Attribute, other, named, keep, keepAll}
-use Rattle.mft_attributes.specs.Attributes.{visit, attributesIn, filenameIn}
+use Rattle.mft_attributes.specs.Attributes.{attributeVisit, attributesIn, filenameIn}
 use Rattle.mft_attributes.specs.Step.{attributeOf}
 use Rattle.mft_attributes.specs.declared.attributes.AttributeStep.{AttributeStep}
 use Rattle.mft_attributes.specs.declared.attributes.AttributeStep.the-variants.{End, Other, Named}
@@ -59,21 +59,21 @@ module _ {e : List ℕ} {first walked : ℕ} {k : Kept} {a n : ℕ} (w : Keeping
   keeping-none h = let z : n ≡ 0 = omega arith in rw z at (w .whole)
 
   -- one attribute, and then the rest
-  one : (m : ℕ) → 0 < m → (v : Visit Attribute) → v ≡ visit e a → attributesIn m e a ≡ after v (walk (visit e) (m - 1))
+  one : (m : ℕ) → 0 < m → (v : Visit Attribute) → v ≡ attributeVisit e a → attributesIn m e a ≡ goingOn v (walk (attributeVisit e) (m - 1))
   unfolding walk
   one zero h v f = absurd (omega arith)
   one (suc m) h v f = let z : suc m - 1 ≡ m = omega arith in rw (f, z)
 
-  module _ (h : 0 < n) {r x : AttributeStep} (g : r ≡ x) (f : attributeOf r ≡ visit e a) where
-    rest : keepAll k (after (attributeOf x) (walk (visit e) (n - 1))) ≡ filenameIn walked e first
+  module _ (h : 0 < n) {r x : AttributeStep} (g : r ≡ x) (f : attributeOf r ≡ attributeVisit e a) where
+    rest : keepAll k (goingOn (attributeOf x) (walk (attributeVisit e) (n - 1))) ≡ filenameIn walked e first
     rest = ap (keepAll k) (sym (one n h (attributeOf x) (ap attributeOf (sym g) ∙ f))) ∙ w .whole
 
-  pub keeping-end : 0 < n → {r : AttributeStep} → r ≡ End → attributeOf r ≡ visit e a → k ≡ filenameIn walked e first
+  pub keeping-end : 0 < n → {r : AttributeStep} → r ≡ End → attributeOf r ≡ attributeVisit e a → k ≡ filenameIn walked e first
   keeping-end h g f = rest h g f
 
-  pub keeping-other : 0 < n → {r : AttributeStep} {p : ℕ} → r ≡ Other p → attributeOf r ≡ visit e a → Keeping e first walked k p (n - 1)
+  pub keeping-other : 0 < n → {r : AttributeStep} {p : ℕ} → r ≡ Other p → attributeOf r ≡ attributeVisit e a → Keeping e first walked k p (n - 1)
   keeping-other h g f = record { whole = rest h g f }
 
-  pub keeping-named : 0 < n → {r : AttributeStep} {new : Filename} {p : ℕ} → r ≡ Named new p → attributeOf r ≡ visit e a
+  pub keeping-named : 0 < n → {r : AttributeStep} {new : Filename} {p : ℕ} → r ≡ Named new p → attributeOf r ≡ attributeVisit e a
       → {k′ : Kept} → k′ ≡ keep k new → Keeping e first walked k′ p (n - 1)
   keeping-named h g f i = record { whole = rw i (rest h g f) }

@@ -13,7 +13,7 @@ use borrow.Author.Tests.{leb-true, leb-false}
 use Rattle.walk.specs.Lists.{All}
 use Rattle.walk.specs.Agree.{Agree}
 use Rattle.walk.specs.Masked.{Within, Apart, placesOf}
-use Rattle.walk.specs.Walk.{Visit, stop, go, after, walk}
+use Rattle.walk.specs.Walk.{Visit, stop, go, goingOn, walk}
 use Rattle.walk.specs.declared.Place.{Place}
 use Rattle.walk.proofs.ChoiceLaws.{cond-cases, cond-two}
 use Rattle.walk.proofs.MaskedLaws.{apart-append, apart-all, Same, Before, walk-same}
@@ -21,12 +21,12 @@ use Rattle.walk.proofs.WalkLaws.{Forward}
 use Rattle.usn_record.specs.Bytes.{leAt}
 use Rattle.usn_record.proofs.ByteLaws.{read-agree}
 use Rattle.mft_attributes.specs.Filename.{replaces, Attribute, other, named, keep, keepAll}
-use Rattle.mft_attributes.specs.Attributes.{endMarker, fixed, Header, headerAt, Content, contentAt, isFilename, given, attributeAt, visit, attributesIn, filenameIn}
+use Rattle.mft_attributes.specs.Attributes.{endMarker, fixed, AttributeHeader, attributeHeaderAt, Content, contentAt, isFilename, given, attributeAt, attributeVisit, attributesIn, filenameIn}
 use Rattle.mft_attributes.specs.declared.filename.Filename.{Filename}
 use Rattle.mft_attributes.specs.declared.filename.Kept.{Kept}
 use Rattle.mft_attributes.specs.declared.filename.Kept.the-variants.{Nothing, Name}
 use Rattle.mft_attributes.proofs.AttributeLaws.{given-past}
-use Rattle.mft_attributes.proofs.LieLaws.{Lies, NameLies, given-lies, Shape, ends, passes, visit-shape, visit-forward, attributes-lie}
+use Rattle.mft_attributes.proofs.LieLaws.{FilenameLies, NameLies, given-lies, AttributeShape, ends, passes, visit-shape, visit-forward, attributes-lie}
 
 -- the name of an attribute, and the one that is kept
 abbrev pub nameOf : Attribute → List Place
@@ -77,21 +77,21 @@ module _ (e d : List ℕ) (long : length d ≡ length e) where
       let g : a + n < c + fixed = leb-false (c + fixed) (a + n) f in
       sym (given-past (length e) (a + n) c (contentAt d c) (omega arith)) ∙ given-past (length e) (a + n) c (contentAt e c) (omega arith)
 
-  attribute-same : (k a : ℕ) → Agree e d a (a + fixed) → Then k a (leAt 4 e (a + 4)) (attributeAt e a (headerAt e a))
-      → attributeAt d a (headerAt e a) ≡ attributeAt e a (headerAt e a)
+  attribute-same : (k a : ℕ) → Agree e d a (a + fixed) → Then k a (leAt 4 e (a + 4)) (attributeAt e a (attributeHeaderAt e a))
+      → attributeAt d a (attributeHeaderAt e a) ≡ attributeAt e a (attributeHeaderAt e a)
   unfolding attributeAt
   attribute-same k a g =
       let n = leAt 4 e (a + 4) in
       let c = a + leAt 2 e (a + 20) in
       rw long
-      (cond-two (λ (y x : Attribute). Then k a n x → y ≡ x) (isFilename (length e) a (headerAt e a))
+      (cond-two (λ (y x : Attribute). Then k a n x → y ≡ x) (isFilename (length e) a (attributeHeaderAt e a))
       (λ _ m. content-same k a n c (omega arith) (leb (c + fixed) (a + n)) refl m) (λ _ _. refl))
 
-  visit-same : (k a : ℕ) → Agree e d a (a + fixed) → Same e d (placesOf nameOf (after (visit e a) (walk (visit e) k))) a → visit d a ≡ visit e a
-  unfolding visit
+  visit-same : (k a : ℕ) → Agree e d a (a + fixed) → Same e d (placesOf nameOf (goingOn (attributeVisit e a) (walk (attributeVisit e) k))) a → attributeVisit d a ≡ attributeVisit e a
+  unfolding attributeVisit
   visit-same k a g =
       let n = leAt 4 e (a + 4) in
-      let R : Visit Attribute → Visit Attribute → Type 0 = λ y x. Same e d (placesOf nameOf (after x (walk (visit e) k))) a → y ≡ x in
+      let R : Visit Attribute → Visit Attribute → Type 0 = λ y x. Same e d (placesOf nameOf (goingOn x (walk (attributeVisit e) k))) a → y ≡ x in
       let read : (w i : ℕ) → i + w ≤ fixed → leAt w d (a + i) ≡ leAt w e (a + i) = λ w i h. read-agree w (a + i) g (omega arith) (omega arith) in
       let type : leAt 4 d a ≡ leAt 4 e a = read-agree 4 a g (omega arith) (omega arith) in
       rw (long, type, read 4 4 (omega arith), read 1 8 (omega arith), read 4 16 (omega arith), read 2 20 (omega arith))
@@ -100,23 +100,23 @@ module _ (e d : List ℕ) (long : length d ≡ length e) where
       cond-two R (ltb n 8 || ltb (length e) (a + n)) (λ _ _. refl) λ _ m.
       ap (λ (x : Attribute). go (x ∷ []) (a + n)) (attribute-same k a g m))
 
-  reads : (k a : ℕ) → Same e d (placesOf nameOf (attributesIn (suc k) e a)) a → visit d a ≡ visit e a
+  reads : (k a : ℕ) → Same e d (placesOf nameOf (attributesIn (suc k) e a)) a → attributeVisit d a ≡ attributeVisit e a
   unfolding walk
   reads k a m = visit-same k a (record { long = long; at = λ i l u. m i l (clear (suc k) a i u) }) m
 
-  forward : (a p : ℕ) (xs : List Attribute) → visit e a ≡ go xs p → a ≤ p
+  forward : (a p : ℕ) (xs : List Attribute) → attributeVisit e a ≡ go xs p → a ≤ p
   forward a p xs f = let g : Forward (length e) a (go xs p) = rw f at (visit-forward e a) in omega arith
 
-  before : (a : ℕ) → Before nameOf (visit e a)
+  before : (a : ℕ) → Before nameOf (attributeVisit e a)
   before a = by (visit-shape e a)
     where
-      by : {v : Visit Attribute} → Shape e a v → Before nameOf v
+      by : {v : Visit Attribute} → AttributeShape e a v → Before nameOf v
       by ends = tt
       by (passes n x s i l) = λ j h. apart-append (nameOf x) [] j (past (a + fixed) (a + n) x j l h) tt
 
   -- entries that differ in names of their attributes alone have the same attributes
   pub attributes-two-runs : (n a : ℕ) → Same e d (placesOf nameOf (attributesIn n e a)) a → attributesIn n d a ≡ attributesIn n e a
-  attributes-two-runs = walk-same e d nameOf (visit e) (visit d) forward before reads
+  attributes-two-runs = walk-same e d nameOf (attributeVisit e) (attributeVisit d) forward before reads
 
 -- the name that is kept is one of the names
 keep-apart : (k : Kept) (new : Filename) (i : ℕ) → Apart (keptName k) i → Apart (new .place ∷ []) i → Apart (keptName (keep k new)) i

@@ -20,7 +20,7 @@ abbrev pub endMarker : ℕ
 endMarker = 0xFFFFFFFF
 
 -- an attribute's header
-pub record Header : Type 0 where
+pub record AttributeHeader : Type 0 where
   pub type : ℕ
   pub length : ℕ
   pub nonResident : ℕ
@@ -29,8 +29,8 @@ pub record Header : Type 0 where
   pub contentOffset : ℕ
 
 -- that of the attribute at a of an entry
-abbrev pub headerAt : List ℕ → ℕ → Header
-headerAt e a =
+abbrev pub attributeHeaderAt : List ℕ → ℕ → AttributeHeader
+attributeHeaderAt e a =
     record {
       type = leAt 4 e a;
       length = leAt 4 e (a + 4);
@@ -55,12 +55,12 @@ abbrev pub contentAt : List ℕ → ℕ → Content
 contentAt e c = record { parent = leAt 8 e c; units = leAt 1 e (c + 64); namespace = leAt 1 e (c + 65) }
 
 -- a $FILE_NAME attribute at a, in an entry with this end, that is resident (a flag past the entry is not) and has all of its content
-abbrev pub isFilename : ℕ → ℕ → Header → Bool
+abbrev pub isFilename : ℕ → ℕ → AttributeHeader → Bool
 isFilename end a h = eqb (h .type) fileName && ltb (a + 8) end && eqb (h .nonResident) 0 && leb fixed (h .contentSize)
 
 -- the name of the content at c
-abbrev pub filenameOf : ℕ → Content → Filename
-filenameOf c x =
+abbrev pub contentFilename : ℕ → Content → Filename
+contentFilename c x =
     record {
       place = record { offset = c + fixed; length = 2 * x .units };
       parent = referenceOf true (x .parent);
@@ -71,18 +71,18 @@ filenameOf c x =
 unfoldable pub given : ℕ → ℕ → ℕ → Content → Attribute
 given entryEnd attributeEnd c x =
     let nameEnd = c + fixed + 2 * x .units in
-    cond (ltb 0 (x .units) && leb nameEnd entryEnd && leb nameEnd attributeEnd) (named (filenameOf c x)) other
+    cond (ltb 0 (x .units) && leb nameEnd entryEnd && leb nameEnd attributeEnd) (named (contentFilename c x)) other
 
 -- the attribute at a
-unfoldable pub attributeAt : List ℕ → ℕ → Header → Attribute
+unfoldable pub attributeAt : List ℕ → ℕ → AttributeHeader → Attribute
 attributeAt e a h =
     let c = a + h .contentOffset in
     cond (isFilename (length e) a h) (given (length e) (a + h .length) c (contentAt e c)) other
 
 -- a visit of the attribute at a: the walk ends with fewer than 8 bytes left, at the mark, and at a length below 8 or past the entry
-unfoldable pub visit : List ℕ → ℕ → Visit Attribute
-visit e a =
-    let h = headerAt e a in
+unfoldable pub attributeVisit : List ℕ → ℕ → Visit Attribute
+attributeVisit e a =
+    let h = attributeHeaderAt e a in
     cond (ltb (length e) (a + 8)) stop
     (cond (eqb (h .type) endMarker) stop
     (cond (ltb (h .length) 8 || ltb (length e) (a + h .length)) stop
@@ -90,7 +90,7 @@ visit e a =
 
 -- the first attributes of an entry, from a on, at most n of them
 abbrev pub attributesIn : ℕ → List ℕ → ℕ → List Attribute
-attributesIn n e a = walk (visit e) n a
+attributesIn n e a = walk (attributeVisit e) n a
 
 -- the name that is kept of these
 unfoldable pub filenameIn : ℕ → List ℕ → ℕ → Kept

@@ -5,7 +5,7 @@ ghost use lib.ListN.{length};
 ghost use Rattle.walk.specs.Walk.{go};
 ghost use mathlib.Core.List.{[], _∷_};
 ghost use Rattle.usn_record.specs.Bytes.{leAt};
-ghost use Rattle.mft_attributes.specs.Attributes.{fileName, headerAt, attributeAt, visit, filenameIn};
+ghost use Rattle.mft_attributes.specs.Attributes.{fileName, attributeHeaderAt, attributeAt, attributeVisit, filenameIn};
 ghost use Rattle.mft_attributes.specs.Step.{attributeOf};
 use crate::filename::Filename;
 use crate::filename::Kept;
@@ -52,7 +52,7 @@ pub fn best_filename(entry: &[u8], first: usize, walked: usize) -> Kept
 
 // The attribute at a.
 fn attribute_step(entry: &[u8], a: usize) -> AttributeStep
-    ensures { λ r. ⌜ attributeOf r ≡ visit (now (entry .entry)) a ⌝ }
+    ensures { λ r. ⌜ attributeOf r ≡ attributeVisit (now (entry .entry)) a ⌝ }
 {
     let end = entry.len();
     if end < 8 {
@@ -82,7 +82,7 @@ fn attribute_step(entry: &[u8], a: usize) -> AttributeStep
 // more is read then.
 fn filename_step(entry: &[u8], a: usize, size: usize) -> AttributeStep
     requires { ⌜ (fileName ≡ leAt 4 (now entry) a) × (size ≡ leAt 4 (now entry) (a + 4)) × (8 ≤ size) × (a + size ≤ length (now entry)) ⌝ }
-    ensures { λ r. ⌜ attributeOf r ≡ go (attributeAt (now (entry .entry)) a (headerAt (now (entry .entry)) a) ∷ []) (a + size) ⌝ }
+    ensures { λ r. ⌜ attributeOf r ≡ go (attributeAt (now (entry .entry)) a (attributeHeaderAt (now (entry .entry)) a) ∷ []) (a + size) ⌝ }
 {
     let next = a + size;
     if entry.len() - a <= 8 {

@@ -12,12 +12,12 @@ use Rattle.walk.specs.declared.Place.{Place}
 use Rattle.usn_record.specs.Bytes.{leAt}
 use Rattle.mft_carver.specs.Settings.{Settings}
 use Rattle.mft_attributes.specs.Attributes.{fixed, filenameIn}
-use Rattle.mft_carver.specs.Entry.{hasSignature, headerOf, entryOf, Event, rejected, carved, byName, judged}
+use Rattle.mft_carver.specs.Entry.{hasSignature, entryHeaderOf, entryOf, Event, rejected, carved, byName, judged}
 use Rattle.mft_carver.specs.declared.CarvedMftEntry.{CarvedMftEntry}
 use Rattle.mft_attributes.specs.declared.filename.Filename.{Filename}
 use Rattle.mft_attributes.specs.declared.filename.Kept.{Kept}
 use Rattle.mft_attributes.specs.declared.filename.Kept.the-variants.{Nothing, Name}
-use Rattle.mft_attributes.proofs.LieLaws.{Lies, found-lies}
+use Rattle.mft_attributes.proofs.LieLaws.{FilenameLies, found-lies}
 
 and-true : (b : Bool) → b ≡ (b && true)
 and-true true = refl
@@ -59,7 +59,7 @@ module _ (st : Settings) (o : ℕ) (e : List ℕ) {n : ℕ} (f : n ≡ leAt 2 e 
     first-above h k = simp (sym f, ne-eqb _ _ i, sym g, le-ltb _ _ h, lt-ltb _ _ k)
 
     module _ (h : st .firstLow ≤ a) (k : a ≤ st .firstHigh) {x y : Kept} (l : x ≡ filenameIn (st .walked) e a) (m : x ≡ y) where
-      by-kept : byName o (headerOf e) y ≡ judged st o e
+      by-kept : byName o (entryHeaderOf e) y ≡ judged st o e
       unfolding judged
       by-kept = rw (← m, l) (simp (sym f, ne-eqb _ _ i, sym g, le-ltb _ _ h, le-ltb _ _ k))
 
@@ -67,7 +67,7 @@ module _ (st : Settings) (o : ℕ) (e : List ℕ) {n : ℕ} (f : n ≡ leAt 2 e 
       rejected-nameless j = rw j at by-kept
 
       module _ {name : Filename} (j : y ≡ Name name) {flags : ℕ} (p : flags ≡ leAt 2 e 22) {number : ℕ} (q : number ≡ leAt 4 e 44) where
-        lies : Lies (a + fixed) (length e) name
+        lies : FilenameLies (a + fixed) (length e) name
         lies = found-lies (st .walked) e a l (m ∙ j)
 
         place : _≡_ {A = Place} (record { offset = o + name .place .offset; length = name .place .length }) (placeFrom o (name .place))
@@ -84,7 +84,7 @@ module _ (st : Settings) (o : ℕ) (e : List ℕ) {n : ℕ} (f : n ≡ leAt 2 e 
               «is_directory» = eqb (flags / 2 % 2) 1;
               «is_in_use» = eqb (flags % 2) 1;
             })
-            (entryOf o (headerOf e) name)
+            (entryOf o (entryHeaderOf e) name)
         assembled = cc (f, p, q, place)
 
         pub carved-entry : carved

@@ -12,7 +12,7 @@ use Rattle.walk.proofs.ListLaws.{Writing, writing-start, writing-skip, writing-
 use Rattle.walk.proofs.WalkLaws.{Left}
 use Rattle.mft_carver.specs.Settings.{Settings}
 use Rattle.mft_carver.specs.Entry.{Event, rejected, carved}
-use Rattle.mft_carver.specs.Carve.{visit, eventsFrom, events, entries, rejections, statsOf, entriesIn, statsIn, stride, flag, entryWords}
+use Rattle.mft_carver.specs.Carve.{imageVisit, eventsFrom, events, entries, rejections, statsOf, entriesIn, statsIn, stride, flag, entryWords}
 use Rattle.mft_carver.specs.Promise.{Fills}
 use Rattle.mft_carver.specs.declared.CarvedMftEntry.{CarvedMftEntry}
 use Rattle.mft_carver.specs.declared.MftCarvingStats.{MftCarvingStats}
@@ -82,7 +82,7 @@ filling-start st s l e =
     })
 
 module _ {st : Settings} {s l₀ l : List ℕ} {x : MftCarvingStats} {o : ℕ} (f : Filling st s l₀ l x o) where
-  pub filling-pass : (p : ℕ) → Left (visit st s) (length s) o (go [] p) → Filling st s l₀ l x p
+  pub filling-pass : (p : ℕ) → Left (imageVisit st s) (length s) o (go [] p) → Filling st s l₀ l x p
   filling-pass p w =
       record {
         written = writing-skip (f .written) (ap entries (w .0));
@@ -94,7 +94,7 @@ module _ {st : Settings} {s l₀ l : List ℕ} {x : MftCarvingStats} {o : ℕ} (
       }
 
   -- a rejected candidate
-  pub filling-rejected : (p : ℕ) → Left (visit st s) (length s) o (go (rejected o ∷ []) p)
+  pub filling-rejected : (p : ℕ) → Left (imageVisit st s) (length s) o (go (rejected o ∷ []) p)
       → Filling st s l₀ l (record {
         «bytes_scanned» = x .«bytes_scanned»;
         «candidates_examined» = x .«candidates_examined» + 1;
@@ -112,7 +112,7 @@ module _ {st : Settings} {s l₀ l : List ℕ} {x : MftCarvingStats} {o : ℕ} (
       }
 
   -- a carved entry has room, and is written
-  module _ (y : CarvedMftEntry) (p : ℕ) (w : Left (visit st s) (length s) o (go (carved y ∷ []) p)) where
+  module _ (y : CarvedMftEntry) (p : ℕ) (w : Left (imageVisit st s) (length s) o (go (carved y ∷ []) p)) where
     pub filling-room : length (entriesIn st s) ≤ length l₀ / stride → stride * x .«entries_carved» + stride ≤ length l
     filling-room h = writing-room entryWords stride (λ _. refl) (f .written) (ap entries (w .0)) h
 

@@ -12,7 +12,7 @@ use Rattle.walk.specs.Agree.{Agree}
 use Rattle.walk.specs.Masked.{Within, Apart, Masked, placesOf}
 use Rattle.walk.specs.Outcome.{Outcome, refused, answered, listedBy}
 use Rattle.walk.specs.Places.{part, placeFrom}
-use Rattle.walk.specs.Walk.{Visit, stop, go, after, walk, from}
+use Rattle.walk.specs.Walk.{Visit, stop, go, goingOn, walk, from}
 use Rattle.walk.specs.declared.Place.{Place}
 use Rattle.walk.proofs.AgreeLaws.{part-in, part-out}
 use Rattle.walk.proofs.ChoiceLaws.{cond-cases, cond-two}
@@ -22,8 +22,8 @@ use Rattle.usn_record.specs.Bytes.{leAt}
 use Rattle.usn_record.proofs.ByteLaws.{read-agree}
 use Rattle.mft_carver.specs.Settings.{Settings}
 use Rattle.mft_attributes.specs.Attributes.{fixed, filenameIn}
-use Rattle.mft_carver.specs.Entry.{hasSignature, Header, headerOf, badHeader, entryOf, Event, rejected, carved, byName, judged}
-use Rattle.mft_carver.specs.Carve.{entryBytes, eventsAt, visit, events, entries, entriesIn, carving, carvingList}
+use Rattle.mft_carver.specs.Entry.{hasSignature, EntryHeader, entryHeaderOf, badHeader, entryOf, Event, rejected, carved, byName, judged}
+use Rattle.mft_carver.specs.Carve.{entryBytes, eventsAt, imageVisit, events, entries, entriesIn, carving, carvingList}
 use Rattle.mft_carver.specs.Masking.{carvedEntries, carvedNames}
 use Rattle.mft_carver.specs.declared.CarvedMftEntry.{CarvedMftEntry}
 use Rattle.mft_carver.specs.declared.MftCarvingStats.{MftCarvingStats}
@@ -32,7 +32,7 @@ use Rattle.mft_attributes.specs.declared.filename.Kept.{Kept}
 use Rattle.mft_attributes.specs.declared.filename.Kept.the-variants.{Nothing, Name}
 use Rattle.mft_carver.proofs.CallLaws.{outcome-agrees}
 use Rattle.mft_carver.proofs.RunLaws.{visit-forward}
-use Rattle.mft_attributes.proofs.LieLaws.{Lies, KeptIs, filename-lies}
+use Rattle.mft_attributes.proofs.LieLaws.{FilenameLies, KeptIs, filename-lies}
 use Rattle.mft_attributes.proofs.TwoRunLaws.{keptName, filename-two-runs}
 
 -- the name of a carved entry
@@ -55,7 +55,7 @@ within-ends o i p =
 abbrev Lying : ℕ → ℕ → Event → Type 0
 Lying o n x = (i : ℕ) → (o + fixed ≤ i → i < o + n → ⊥) → Apart (nameOf x) i
 
-kept-lying : (o n a : ℕ) (h : Header) (k : Kept) → KeptIs (Lies (a + fixed) n) k → Lying o n (byName o h k)
+kept-lying : (o n a : ℕ) (h : EntryHeader) (k : Kept) → KeptIs (FilenameLies (a + fixed) n) k → Lying o n (byName o h k)
 kept-lying o n a h Nothing l = λ i out. tt
 kept-lying o n a h (Name f) l =
     λ i out. (λ w. let r = within-ends o i (f .place) w in out (omega (arith, l .begins)) (omega (arith, l .ends)), tt)
@@ -63,8 +63,8 @@ kept-lying o n a h (Name f) l =
 judged-lying : (st : Settings) (o : ℕ) (e : List ℕ) → Lying o (length e) (judged st o e)
 unfolding judged
 judged-lying st o e =
-    cond-cases (Lying o (length e)) (badHeader st (headerOf e)) (λ _ i out. tt)
-    (λ _. kept-lying o (length e) (leAt 2 e 20) (headerOf e) (filenameIn (st .walked) e (leAt 2 e 20)) (filename-lies (st .walked) e (leAt 2 e 20)))
+    cond-cases (Lying o (length e)) (badHeader st (entryHeaderOf e)) (λ _ i out. tt)
+    (λ _. kept-lying o (length e) (leAt 2 e 20) (entryHeaderOf e) (filenameIn (st .walked) e (leAt 2 e 20)) (filename-lies (st .walked) e (leAt 2 e 20)))
 
 -- the same of what stands at o
 events-lying : (st : Settings) (o : ℕ) (e : List ℕ) (i : ℕ) → (o + fixed ≤ i → i < o + length e → ⊥) → Apart (placesOf nameOf (eventsAt st o e)) i
@@ -77,7 +77,7 @@ module _ (st : Settings) (o : ℕ) (e d : List ℕ) (long : length d ≡ length 
   abbrev Alike : List Event → Type 0
   Alike xs = (i : ℕ) → Apart (placesOf nameOf xs) (o + i) → getD d i 0 ≡ getD e i 0
 
-  kept-apart : (h : Header) (k : Kept) (i : ℕ) → Apart (keptName k) i → Apart (placesOf nameOf (byName o h k ∷ [])) (o + i)
+  kept-apart : (h : EntryHeader) (k : Kept) (i : ℕ) → Apart (keptName k) i → Apart (placesOf nameOf (byName o h k ∷ [])) (o + i)
   kept-apart h Nothing i a = tt
   kept-apart h (Name f) i a = (λ w. a .0 (within-from o i (f .place) w), tt)
 
@@ -87,8 +87,8 @@ module _ (st : Settings) (o : ℕ) (e d : List ℕ) (long : length d ≡ length 
       let read : (w i : ℕ) → i + w ≤ fixed → leAt w d i ≡ leAt w e i = λ w i h. read-agree w i g (omega arith) (omega arith) in
       let a = leAt 2 e 20 in
       rw (read 2 16 (omega arith), read 2 20 (omega arith), read 2 22 (omega arith), read 4 44 (omega arith))
-      (cond-two (λ (y x : Event). Alike (x ∷ []) → y ≡ x) (badHeader st (headerOf e)) (λ _ _. refl)
-      (λ _ m. ap (byName o (headerOf e)) (filename-two-runs e d long (st .walked) a (λ i h. m i (kept-apart (headerOf e) (filenameIn (st .walked) e a) i h)))))
+      (cond-two (λ (y x : Event). Alike (x ∷ []) → y ≡ x) (badHeader st (entryHeaderOf e)) (λ _ _. refl)
+      (λ _ m. ap (byName o (entryHeaderOf e)) (filename-two-runs e d long (st .walked) a (λ i h. m i (kept-apart (entryHeaderOf e) (filenameIn (st .walked) e a) i h)))))
 
   signature-same : Agree e d 0 fixed → hasSignature d ≡ hasSignature e
   unfolding hasSignature
@@ -121,27 +121,27 @@ module _ (st : Settings) (s t : List ℕ) (long : length t ≡ length s) where
       part-out t o (st .size) i k ∙ sym (part-out s o (st .size) i k)
 
   -- the names from o on leave the bytes below alone
-  low : (k o i : ℕ) → i < o → Apart (placesOf nameOf (walk (visit st s) k o)) i
-  unfolding walk visit
+  low : (k o i : ℕ) → i < o → Apart (placesOf nameOf (walk (imageVisit st s) k o)) i
+  unfolding walk imageVisit
   low zero o i h = tt
   low (suc k) o i h =
-      cond-cases (λ (v : Visit Event). Apart (placesOf nameOf (after v (walk (visit st s) k))) i) (ltb (length s) (o + st .size)) (λ _. tt)
+      cond-cases (λ (v : Visit Event). Apart (placesOf nameOf (goingOn v (walk (imageVisit st s) k))) i) (ltb (length s) (o + st .size)) (λ _. tt)
       (λ _.
-      apart-both (eventsAt st o (entryBytes st s o)) (walk (visit st s) k (o + st .size)) i
+      apart-both (eventsAt st o (entryBytes st s o)) (walk (imageVisit st s) k (o + st .size)) i
       (events-lying st o (entryBytes st s o) i (λ a b. omega arith)) (low k (o + st .size) i (omega arith)))
 
-  reads : (k o : ℕ) → Same s t (placesOf nameOf (walk (visit st s) (suc k) o)) o → visit st t o ≡ visit st s o
-  unfolding walk visit
+  reads : (k o : ℕ) → Same s t (placesOf nameOf (walk (imageVisit st s) (suc k) o)) o → imageVisit st t o ≡ imageVisit st s o
+  unfolding walk imageVisit
   reads k o =
       rw long
-      (cond-two (λ (w v : Visit Event). Same s t (placesOf nameOf (after v (walk (visit st s) k))) o → w ≡ v) (ltb (length s) (o + st .size)) (λ _ _. refl)
+      (cond-two (λ (w v : Visit Event). Same s t (placesOf nameOf (goingOn v (walk (imageVisit st s) k))) o → w ≡ v) (ltb (length s) (o + st .size)) (λ _ _. refl)
       (λ f m.
       ap (λ (xs : List Event). go xs (o + st .size))
       (events-same st o (entryBytes st s o) (entryBytes st t o) (simp (length-take, length-drop, long))
-      (λ i a. byte o (ltb-false (length s) (o + st .size) f) (walk (visit st s) k (o + st .size)) (λ j h. low k (o + st .size) j h) m i a (ltb i (st .size)) refl))))
+      (λ i a. byte o (ltb-false (length s) (o + st .size) f) (walk (imageVisit st s) k (o + st .size)) (λ j h. low k (o + st .size) j h) m i a (ltb i (st .size)) refl))))
 
-  before : (o : ℕ) → Before nameOf (visit st s o)
-  unfolding visit
+  before : (o : ℕ) → Before nameOf (imageVisit st s o)
+  unfolding imageVisit
   before o =
       cond-cases (Before nameOf) (ltb (length s) (o + st .size)) (λ _. tt)
       (λ _ i h. events-lying st o (entryBytes st s o) i (λ a b. omega (arith, length-part)))
@@ -150,12 +150,12 @@ module _ (st : Settings) (s t : List ℕ) (long : length t ≡ length s) where
       length-part = simp length-take (omega arith)
 
   module _ (some : 1 ≤ st .size) where
-    forward : (o p : ℕ) (xs : List Event) → visit st s o ≡ go xs p → o ≤ p
+    forward : (o p : ℕ) (xs : List Event) → imageVisit st s o ≡ go xs p → o ≤ p
     forward o p xs f = let g : Forward (length s) o (go xs p) = rw f at (visit-forward st s some o) in omega arith
 
     pub image-two-runs : Same s t (placesOf nameOf (events st s)) 0 → events st t ≡ events st s
     unfolding from
-    image-two-runs m = rw long (walk-same s t nameOf (visit st s) (visit st t) forward before reads (length s - 0) 0 m)
+    image-two-runs m = rw long (walk-same s t nameOf (imageVisit st s) (imageVisit st t) forward before reads (length s - 0) 0 m)
 
 -- the names of the carved events are those of the entries in the list
 pub names-of : (es : List Event) → placesOf nameOf es ≡ placesOf (λ x. x .filename ∷ []) (entries es)

@@ -14,8 +14,8 @@ use Rattle.walk.proofs.ChoiceLaws.{cond-cases}
 use Rattle.walk.proofs.WalkLaws.{Forward, Costs, walk-bound, Left, left}
 use Rattle.mft_carver.specs.Settings.{Settings, settingsOf}
 use Rattle.mft_carver.specs.Entry.{hasSignature, Event, rejected, carved, judged}
-use Rattle.mft_carver.specs.Carve.{entryBytes, eventsAt, visit, events, entries, rejections, entriesIn}
-use Rattle.mft_carver.specs.Step.{eventOf, visitOf}
+use Rattle.mft_carver.specs.Carve.{entryBytes, eventsAt, imageVisit, events, entries, rejections, entriesIn}
+use Rattle.mft_carver.specs.Step.{eventOf, imageVisitOf}
 use Rattle.mft_carver.specs.declared.entry.Candidate.{Candidate}
 use Rattle.mft_carver.specs.declared.step.CarveStep.{CarveStep}
 
@@ -24,18 +24,18 @@ abbrev lent : Settings → List ℕ → ℕ → List ℕ
 lent st s o = take (o + st .size - o) (drop o s)
 
 module _ (st : Settings) (s : List ℕ) (o : ℕ) where
-  pub stopped : length s < o + st .size → stop ≡ visit st s o
-  unfolding visit
+  pub stopped : length s < o + st .size → stop ≡ imageVisit st s o
+  unfolding imageVisit
   stopped h = simp (lt-ltb _ _ h)
 
   -- with the entry's bytes as they are lent
   module _ (h : o + st .size ≤ length s) {b : Bool} (f : b ≡ hasSignature (lent st s o)) where
-    pub no-candidate : b ≡ false → go [] (o + st .size) ≡ visit st s o
-    unfolding visit
+    pub no-candidate : b ≡ false → go [] (o + st .size) ≡ imageVisit st s o
+    unfolding imageVisit
     no-candidate k = simp (le-ltb _ _ h, sym (part-lent s o (st .size)), sym f ∙ k)
 
-    pub candidate : b ≡ true → {x : Event} → x ≡ judged st o (lent st s o) → go (x ∷ []) (o + st .size) ≡ visit st s o
-    unfolding visit
+    pub candidate : b ≡ true → {x : Event} → x ≡ judged st o (lent st s o) → go (x ∷ []) (o + st .size) ≡ imageVisit st s o
+    unfolding imageVisit
     candidate k i = rw i (simp (le-ltb _ _ h, sym (part-lent s o (st .size)), sym f ∙ k))
 
 -- a candidate's tests do not ask for the size of entries
@@ -51,18 +51,18 @@ candidates-add-up (rejected o ∷ es) = omega (arith, candidates-add-up es)
 candidates-add-up (carved x ∷ es) = omega (arith, candidates-add-up es)
 
 module _ (st : Settings) (s : List ℕ) (some : 1 ≤ st .size) where
-  pub visit-forward : (o : ℕ) → Forward (length s) o (visit st s o)
-  unfolding visit
+  pub visit-forward : (o : ℕ) → Forward (length s) o (imageVisit st s o)
+  unfolding imageVisit
   visit-forward o =
       cond-cases (Forward (length s) o) (ltb (length s) (o + st .size)) (λ _. tt) λ e. let h = ltb-false (length s) (o + st .size) e in omega (arith, some)
 
   -- what is left of the run at o, by what the step there says
-  pub rest : (o : ℕ) {r x : CarveStep} → r ≡ x → visitOf o r ≡ visit st s o → Left (visit st s) (length s) o (visitOf o x)
-  rest o {x = x} e f = left (visit st s) (length s) visit-forward o (visitOf o x) (ap (visitOf o) (sym e) ∙ f)
+  pub rest : (o : ℕ) {r x : CarveStep} → r ≡ x → imageVisitOf o r ≡ imageVisit st s o → Left (imageVisit st s) (length s) o (imageVisitOf o x)
+  rest o {x = x} e f = left (imageVisit st s) (length s) visit-forward o (imageVisitOf o x) (ap (imageVisitOf o) (sym e) ∙ f)
 
   -- a visit finds one event at most, and takes an entry's bytes
-  visit-costs : (o : ℕ) → Costs (st .size) (length s) o (visit st s o)
-  unfolding visit
+  visit-costs : (o : ℕ) → Costs (st .size) (length s) o (imageVisit st s o)
+  unfolding imageVisit
   visit-costs o =
       cond-cases (Costs (st .size) (length s) o) (ltb (length s) (o + st .size)) (λ _. tt) λ e.
       let h = ltb-false (length s) (o + st .size) e in
@@ -73,7 +73,7 @@ module _ (st : Settings) (s : List ℕ) (some : 1 ≤ st .size) where
   pub room-enough : {room : ℕ} → length s / st .size ≤ room → length (entriesIn st s) ≤ room
   unfolding from
   room-enough h =
-      let few : 0 + st .size * length (events st s) ≤ length s = walk-bound (visit st s) (st .size) (length s) visit-costs (length s - 0) 0 (omega arith) in
+      let few : 0 + st .size * length (events st s) ≤ length s = walk-bound (imageVisit st s) (st .size) (length s) visit-costs (length s - 0) 0 (omega arith) in
       let k : length (events st s) * st .size ≤ length s = rw (mul-comm (length (events st s)) (st .size)) (rw zero-add at few) in
       let g : length (events st s) ≤ length s / st .size = (le-div-iff-mul-le some) .1 k in
       omega (arith, candidates-add-up (events st s))

@@ -25,12 +25,12 @@ abbrev pub eventsAt : Settings → ℕ → List ℕ → List Event
 eventsAt st o e = cond (hasSignature e) (judged st o e ∷ []) []
 
 -- a visit of o, while a whole entry fits
-unfoldable pub visit : Settings → List ℕ → ℕ → Visit Event
-visit st s o = cond (ltb (length s) (o + st .size)) stop (go (eventsAt st o (entryBytes st s o)) (o + st .size))
+unfoldable pub imageVisit : Settings → List ℕ → ℕ → Visit Event
+imageVisit st s o = cond (ltb (length s) (o + st .size)) stop (go (eventsAt st o (entryBytes st s o)) (o + st .size))
 
 -- the events from o on, and those of the whole image
 abbrev pub eventsFrom : Settings → List ℕ → ℕ → List Event
-eventsFrom st s = from (visit st s) (length s)
+eventsFrom st s = from (imageVisit st s) (length s)
 
 abbrev pub events : Settings → List ℕ → List Event
 events st s = eventsFrom st s 0

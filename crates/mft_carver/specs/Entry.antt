@@ -26,15 +26,15 @@ unfoldable pub hasSignature : List ℕ → Bool
 hasSignature e = spells signature e 0
 
 -- an entry's header
-pub record Header : Type 0 where
+pub record EntryHeader : Type 0 where
   pub sequence : ℕ
   -- the offset of the first attribute
   pub first : ℕ
   pub flags : ℕ
   pub number : ℕ
 
-abbrev pub headerOf : List ℕ → Header
-headerOf e = record { sequence = leAt 2 e 16; first = leAt 2 e 20; flags = leAt 2 e 22; number = leAt 4 e 44 }
+abbrev pub entryHeaderOf : List ℕ → EntryHeader
+entryHeaderOf e = record { sequence = leAt 2 e 16; first = leAt 2 e 20; flags = leAt 2 e 22; number = leAt 4 e 44 }
 
 -- flags 1 and 2
 abbrev pub inUse : ℕ → Bool
@@ -44,11 +44,11 @@ abbrev pub isDirectory : ℕ → Bool
 isDirectory flags = eqb (flags / 2 % 2) 1
 
 -- the header of no entry: it was never used, or its first attribute lies outside the limits
-abbrev pub badHeader : Settings → Header → Bool
+abbrev pub badHeader : Settings → EntryHeader → Bool
 badHeader st h = eqb (h .sequence) 0 || ltb (h .first) (st .firstLow) || ltb (st .firstHigh) (h .first)
 
 -- the entry at o of an image, with this header and name
-abbrev pub entryOf : ℕ → Header → Filename → CarvedMftEntry
+abbrev pub entryOf : ℕ → EntryHeader → Filename → CarvedMftEntry
 entryOf o h f =
     record {
       offset = o;
@@ -67,12 +67,12 @@ pub data Event : Type 0 where
   carved : CarvedMftEntry → Event
 
 -- a candidate without a name is rejected
-abbrev pub byName : ℕ → Header → Kept → Event
+abbrev pub byName : ℕ → EntryHeader → Kept → Event
 byName o h Nothing = rejected o
 byName o h (Name f) = carved (entryOf o h f)
 
 -- what becomes of the candidate e, which stands at o of an image
 unfoldable pub judged : Settings → ℕ → List ℕ → Event
 judged st o e =
-    let h = headerOf e in
+    let h = entryHeaderOf e in
     cond (badHeader st h) (rejected o) (byName o h (filenameIn (st .walked) e (h .first)))

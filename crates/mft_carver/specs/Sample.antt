@@ -28,8 +28,8 @@ abbrev pub abc : List ℕ
 abc = leBytes 2 0x61 ++ leBytes 2 0x62 ++ leBytes 2 0x63
 
 -- the attribute with the name abc
-abbrev pub named : ℕ → List ℕ
-named namespace = beforeName namespace ++ abc
+abbrev pub nameAttribute : ℕ → List ℕ
+nameAttribute namespace = beforeName namespace ++ abc
 
 -- n attributes of another type and of 8 bytes, one after the other
 abbrev pub others : ℕ → List ℕ

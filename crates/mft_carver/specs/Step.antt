@@ -14,8 +14,8 @@ eventOf o RejectedCandidate = rejected o
 eventOf o (CarvedCandidate x) = carved x
 
 -- a step at o of an image as a visit
-abbrev pub visitOf : ℕ → CarveStep → Visit Event
-visitOf o Stop = stop
-visitOf o (Move p) = go [] p
-visitOf o (Rejected p) = go (rejected o ∷ []) p
-visitOf o (Carved x p) = go (carved x ∷ []) p
+abbrev pub imageVisitOf : ℕ → CarveStep → Visit Event
+imageVisitOf o Stop = stop
+imageVisitOf o (Move p) = go [] p
+imageVisitOf o (Rejected p) = go (rejected o ∷ []) p
+imageVisitOf o (Carved x p) = go (carved x ∷ []) p

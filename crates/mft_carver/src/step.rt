@@ -4,8 +4,8 @@ ghost use Prim.Native.Nat.{_≤_};
 ghost use lib.ListN.{length};
 ghost use Rattle.walk.specs.Refusals.{domain};
 ghost use Rattle.mft_carver.specs.Settings.{settingsOf};
-ghost use Rattle.mft_carver.specs.Carve.{visit};
-ghost use Rattle.mft_carver.specs.Step.{visitOf};
+ghost use Rattle.mft_carver.specs.Carve.{imageVisit};
+ghost use Rattle.mft_carver.specs.Step.{imageVisitOf};
 use crate::CarvedMftEntry;
 use crate::entry::Candidate;
 use crate::entry::has_signature;
@@ -30,7 +30,7 @@ pub(crate) fn carve_step(
     walked: usize,
 ) -> CarveStep
     requires { ⌜ (1 ≤ size) × (length (now image) ≤ domain) ⌝ }
-    ensures { λ r. ⌜ visitOf o r ≡ visit (settingsOf size low high walked) (now (image .entry)) o ⌝ }
+    ensures { λ r. ⌜ imageVisitOf o r ≡ imageVisit (settingsOf size low high walked) (now (image .entry)) o ⌝ }
 {
     let end = image.len();
     if end < size {

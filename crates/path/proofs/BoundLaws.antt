@@ -10,10 +10,10 @@ use lib.Dec.{leb, eqb}
 use Rattle.utf16.proofs.TextLaws.{name-most}
 use Rattle.walk.specs.Refusals.{domain}
 use Rattle.entry_slots.specs.Names.{lengthsOf, inside}
-use Rattle.entry_slots.specs.Slots.{nameAt}
+use Rattle.entry_slots.specs.Slots.{slotName}
 use Rattle.entry_slots.specs.declared.NamePlace.{NamePlace}
 use Rattle.chain.specs.Chain.{Chain}
-use Rattle.chain.specs.Way.{placesOf, stepBound, namesBound, chainBy}
+use Rattle.chain.specs.Way.{wayPlaces, stepBound, namesBound, chainBy}
 use Rattle.chain.specs.declared.way.Climbed.{Climbed}
 use Rattle.chain.proofs.WayLaws.{places-less, places-none, bound-short}
 use Rattle.path_text.specs.Text.{endText, placeText, stepText, namesText, pathText}
@@ -39,18 +39,18 @@ fits-less part own room {whole} h e = go (leb whole room) refl
 -- the last slot's name, and then those of the slots before it
 module _ (words way : List ℕ) (n : ℕ) (some : 0 < n) where
   abbrev last : NamePlace
-  last = nameAt words (getD way (n - 1) 0)
+  last = slotName words (getD way (n - 1) 0)
 
   module _ (journal image : List ℕ) where
-    pub text-less : namesText journal image (placesOf words way n) ≡ stepText journal image last ++ namesText journal image (placesOf words way (n - 1))
+    pub text-less : namesText journal image (wayPlaces words way n) ≡ stepText journal image last ++ namesText journal image (wayPlaces words way (n - 1))
     text-less = ap (namesText journal image) (places-less words way n some)
 
-    pub bytes-less : length (namesText journal image (placesOf words way n)) ≡ 1 + length (placeText journal image last) + length (namesText journal image (placesOf words way (n - 1)))
+    pub bytes-less : length (namesText journal image (wayPlaces words way n)) ≡ 1 + length (placeText journal image last) + length (namesText journal image (wayPlaces words way (n - 1)))
     bytes-less =
-        omega (arith, ap length text-less, length-append (stepText journal image last) (namesText journal image (placesOf words way (n - 1))), step-long journal image last)
+        omega (arith, ap length text-less, length-append (stepText journal image last) (namesText journal image (wayPlaces words way (n - 1))), step-long journal image last)
 
 -- no name is left
-pub text-none : (words way journal image : List ℕ) {n : ℕ} → n ≡ 0 → namesText journal image (placesOf words way n) ≡ []
+pub text-none : (words way journal image : List ℕ) {n : ℕ} → n ≡ 0 → namesText journal image (wayPlaces words way n) ≡ []
 text-none words way journal image e = rw (e, places-none words way)
 
 module _ (journal image : List ℕ) where
@@ -84,14 +84,14 @@ module _ (journal image : List ℕ) where
         omega (arith, step-three p, bound-short p (omega (arith, short)))
 
     -- and the bound of a way whose names are inside is enough for its path
-    names-enough : (words way : List ℕ) (n : ℕ) → ((i : ℕ) → i < n → inside (lengthsOf journal image) (nameAt words (getD way i 0)) ≡ true)
-        → length (namesText journal image (placesOf words way n)) ≤ namesBound (placesOf words way n)
-    unfolding placesOf namesBound
+    names-enough : (words way : List ℕ) (n : ℕ) → ((i : ℕ) → i < n → inside (lengthsOf journal image) (slotName words (getD way i 0)) ≡ true)
+        → length (namesText journal image (wayPlaces words way n)) ≤ namesBound (wayPlaces words way n)
+    unfolding wayPlaces namesBound
     names-enough words way zero h = omega arith
     names-enough words way (suc n) h =
-        let p : NamePlace = nameAt words (getD way n 0) in
+        let p : NamePlace = slotName words (getD way n 0) in
         omega
-        (arith, length-append (stepText journal image p) (namesText journal image (placesOf words way n)), step-enough p (h n (omega arith)), names-enough words way n (λ i g. h i (omega arith)))
+        (arith, length-append (stepText journal image p) (namesText journal image (wayPlaces words way n)), step-enough p (h n (omega arith)), names-enough words way n (λ i g. h i (omega arith)))
 
     pub path-enough : (words way : List ℕ) (up : Climbed) → WayAsks journal image words way up
         → length (pathText journal image (chainBy words way up)) ≤ length (endText (up .end)) + up .bound

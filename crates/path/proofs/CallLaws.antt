@@ -20,7 +20,7 @@ use Rattle.chain.specs.declared.ResolvedPath.{ResolvedPath}
 use Rattle.chain.specs.declared.way.Climbed.{Climbed}
 use Rattle.chain.specs.Chain.{Chain, chain, chainOf, resolved}
 use Rattle.chain.specs.Settings.{depth}
-use Rattle.chain.specs.Tracing.{tracing, listed, chainAfter}
+use Rattle.chain.specs.Tracing.{tracing, withPlaces, chainAfter}
 use Rattle.chain.proofs.CallLaws.{Traced, chain-traced}
 use Rattle.path_text.specs.Text.{pathText}
 use Rattle.path_text.proofs.CallLaws.{text-over, text-fits}
@@ -77,7 +77,7 @@ module _ (journal image : List ℕ) (t : Table) (k : EntryKey) (x l : List ℕ) 
             let z : _≡_ {A = ℕ} 0 1 = cc in
             absurd (omega arith)
 
-    pub path-told : {to : ℕ} → r ≡ To to → {p : ResolvedPath} {m : List ℕ} → p ≡ resolved (chainOf t depth k) → m ≡ listed x (chainOf t depth k .places) → Comes (Path p to) m o
+    pub path-told : {to : ℕ} → r ≡ To to → {p : ResolvedPath} {m : List ℕ} → p ≡ resolved (chainOf t depth k) → m ≡ withPlaces x (chainOf t depth k .places) → Comes (Path p to) m o
     path-told {to} f {p} {m} path-is list-is = go (ltb (length l - 0) (length whole)) refl
       where
         go : (b : Bool) → ltb (length l - 0) (length whole) ≡ b → Comes (Path p to) m o

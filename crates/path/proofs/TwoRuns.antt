@@ -18,8 +18,8 @@ use Rattle.entry_slots.specs.declared.NamePlace.{NamePlace}
 use Rattle.chain.specs.Tracing.{inDomain, tracing}
 use Rattle.chain.proofs.TwoRuns.{core-refusals}
 use Rattle.path_text.specs.Text.{placeText, pathText}
-use Rattle.path_text.specs.Decoding.{withText, placing, decoding}
-use Rattle.path.specs.Telling.{telling}
+use Rattle.path_text.specs.Decoding.{withText, placing, placeDecoding}
+use Rattle.path.specs.Written.{tracingWithText}
 use Rattle.path.specs.Alike.{Beside, Alike}
 use Rattle.path_text.proofs.CallLaws.{text-fits}
 
@@ -34,7 +34,7 @@ with-text text room (answered a) = go (ltb room (length (text a)))
 -- The path of a key, for any two texts: the same refusal among 1, 9 and 7, or the same chain, end and names, or 8.
 pub path-two-runs : (journal journal′ image image′ : List ℕ) (t : Table) (depth : ℕ) (k : EntryKey) (room room′ : ℕ)
     → length journal′ ≡ length journal → length image′ ≡ length image
-    → Alike (tracing (lengthsOf journal image) t depth k) (telling journal image t depth k room) (telling journal′ image′ t depth k room′)
+    → Alike (tracing (lengthsOf journal image) t depth k) (tracingWithText journal image t depth k room) (tracingWithText journal′ image′ t depth k room′)
 path-two-runs journal journal′ image image′ t depth k room room′ e f =
     let core = tracing (lengthsOf journal image) t depth k in
     record { first = with-text (pathText journal image) room core; second = rw (e, f) (with-text (pathText journal′ image′) room′ core) }
@@ -42,7 +42,7 @@ path-two-runs journal journal′ image image′ t depth k room room′ e f =
 -- The name at a place, for any two texts: the same refusal among 1 and 7, or an answer or 8.
 pub decode-two-runs : (journal journal′ image image′ : List ℕ) (p : NamePlace) (room room′ : ℕ)
     → length journal′ ≡ length journal → length image′ ≡ length image
-    → Alike (placing (lengthsOf journal image) p) (decoding journal image p room) (decoding journal′ image′ p room′)
+    → Alike (placing (lengthsOf journal image) p) (placeDecoding journal image p room) (placeDecoding journal′ image′ p room′)
 decode-two-runs journal journal′ image image′ p room room′ e f =
     let core = placing (lengthsOf journal image) p in
     record { first = with-text (placeText journal image) room core; second = rw (e, f) (with-text (placeText journal′ image′) room′ core) }
@@ -68,14 +68,14 @@ retried text room (refused n) never e = absurd (never e)
 retried text room (answered a) never e = record { answer = a; answers = refl; again = λ room h. text-fits text room refl h }
 
 -- A path that 8 refused, repeated with a text of at least its path's length, is answered.
-pub path-again : (journal image : List ℕ) (t : Table) (depth : ℕ) (k : EntryKey) (room : ℕ) → telling journal image t depth k room ≡ refused textFull
+pub path-again : (journal image : List ℕ) (t : Table) (depth : ℕ) (k : EntryKey) (room : ℕ) → tracingWithText journal image t depth k room ≡ refused textFull
     → Answers (pathText journal image) (tracing (lengthsOf journal image) t depth k)
 path-again journal image t depth k room =
     retried (pathText journal image) room (tracing (lengthsOf journal image) t depth k)
     (λ e. ⊎-elim (λ z. omega arith) (⊎-elim (λ z. omega arith) (λ z. omega arith)) (core-refusals (lengthsOf journal image) t depth k e))
 
 -- So is a name.
-pub decode-again : (journal image : List ℕ) (p : NamePlace) (room : ℕ) → decoding journal image p room ≡ refused textFull
+pub decode-again : (journal image : List ℕ) (p : NamePlace) (room : ℕ) → placeDecoding journal image p room ≡ refused textFull
     → Answers (placeText journal image) (placing (lengthsOf journal image) p)
 decode-again journal image p room =
     retried (placeText journal image) room (placing (lengthsOf journal image) p)

@@ -12,7 +12,7 @@ use Rattle.walk.specs.Refusals.{domain}
 use Rattle.walk.proofs.ListLaws.{sets-append}
 use Rattle.utf16.proofs.PutLaws.{Put}
 use Rattle.entry_slots.specs.Names.{lengthsOf, allInside}
-use Rattle.entry_slots.specs.Slots.{stride, nameAt, namesIn}
+use Rattle.entry_slots.specs.Slots.{stride, slotName, namesIn}
 use Rattle.entry_slots.specs.Table.{Table}
 use Rattle.entry_slots.specs.declared.EntryKey.{EntryKey}
 use Rattle.entry_slots.proofs.NameLaws.{all-inside-at}
@@ -29,7 +29,7 @@ pub climbed-asks : (journal image : List ℕ) (t : Table) (k : EntryKey) {r : Cl
 climbed-asks journal image t k g fits names hj hm =
     record {
       slots = climbed-slots t k g fits;
-      insides = λ i h. all-inside-at (lengthsOf journal image) (nameAt (t .words)) 0 (t .used) _ names (omega arith) (omega (arith, g .below .each i h));
+      insides = λ i h. all-inside-at (lengthsOf journal image) (slotName (t .words)) 0 (t .used) _ names (omega arith) (omega (arith, g .below .each i h));
       bounds = g .bounds;
       near-journal = hj;
       near-image = hm;

@@ -1,4 +1,4 @@
-pub mod Telling
+pub mod Written
 pub mod Ways
 pub mod Promise
 pub mod Alike

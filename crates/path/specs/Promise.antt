@@ -11,17 +11,17 @@ use Rattle.walk.specs.Lists.{listAfter}
 use Rattle.walk.specs.Outcome.{Outcome, mapOutcome}
 use Rattle.walk.specs.Refusals.{domain}
 use Rattle.entry_slots.specs.Names.{lengthsOf, inside}
-use Rattle.entry_slots.specs.Slots.{nameAt}
+use Rattle.entry_slots.specs.Slots.{slotName}
 use Rattle.entry_slots.specs.Table.{Table, table}
 use Rattle.entry_slots.specs.declared.EntryKey.{EntryKey}
 use Rattle.entry_slots.specs.declared.NamePlace.{NamePlace}
 use Rattle.chain.specs.Chain.{Chain}
 use Rattle.chain.specs.Settings.{depth}
 use Rattle.chain.specs.Tracing.{chainAfter}
-use Rattle.chain.specs.Way.{Slots, placesOf, namesBound, chainBy}
+use Rattle.chain.specs.Way.{Slots, wayPlaces, namesBound, chainBy}
 use Rattle.chain.specs.declared.way.Climbed.{Climbed}
 use Rattle.path_text.specs.Text.{pathText}
-use Rattle.path.specs.Telling.{telling, told, outcome}
+use Rattle.path.specs.Written.{tracingWithText, writtenPath, outcome}
 use Rattle.path.specs.Ways.{entryText, passes}
 use Rattle.path.specs.declared.PathAnswer.{PathAnswer}
 use Rattle.path.specs.declared.ways.Behind.{Behind}
@@ -30,10 +30,10 @@ use Rattle.path.specs.declared.ways.Behind.the-variants.{To, Full}
 -- the path of a key: its answer, the list of its places, and its text
 module _ (journal image : List ℕ) (t : Table) (key : EntryKey) (list text : List ℕ) where
   abbrev pub pathOut : Outcome Chain
-  pathOut = telling journal image t depth key (length text)
+  pathOut = tracingWithText journal image t depth key (length text)
 
   pub record Paths (r : PathAnswer) (list′ text′ : List ℕ) : Type 0 where
-    pub answer : outcome r ≡ mapOutcome (told journal image) pathOut
+    pub answer : outcome r ≡ mapOutcome (writtenPath journal image) pathOut
     pub places : list′ ≡ chainAfter pathOut list
     pub written : text′ ≡ listAfter (pathText journal image) pathOut text
 
@@ -44,8 +44,8 @@ PathPromise journal image slots used key list text r =
 -- what is known before the names of a way are told: its slots are slots of these words, their names are inside, and its bound is theirs
 pub record WayAsks (journal image words way : List ℕ) (up : Climbed) : Type 0 where
   pub slots : Slots words way (up .names)
-  pub insides : (i : ℕ) → i < up .names → inside (lengthsOf journal image) (nameAt words (getD way i 0)) ≡ true
-  pub bounds : up .bound ≡ namesBound (placesOf words way (up .names))
+  pub insides : (i : ℕ) → i < up .names → inside (lengthsOf journal image) (slotName words (getD way i 0)) ≡ true
+  pub bounds : up .bound ≡ namesBound (wayPlaces words way (up .names))
   pub near-journal : length journal ≤ domain
   pub near-image : length image ≤ domain
 

@@ -2,12 +2,12 @@
 use Prim.Native.Nat.{ℕ, zero, suc, _+_}
 use mathlib.Core.List.{List, [], _∷_, _++_}
 use Rattle.walk.specs.Outcome.{outcomeWords}
-use Rattle.entry_slots.specs.Slots.{entryWords}
+use Rattle.entry_slots.specs.Slots.{slotWords}
 use Rattle.entry_slots.specs.Table.{Table, table}
 use Rattle.entry_slots.specs.declared.EntryKey.{EntryKey}
 use Rattle.chain.specs.Settings.{depth}
 use Rattle.path_text.specs.Text.{pathText}
-use Rattle.path.specs.Telling.{telling}
+use Rattle.path.specs.Written.{tracingWithText}
 
 abbrev pub key : ℕ → ℕ → EntryKey
 key entry sequence = record { entry = entry; sequence = sequence }
@@ -18,7 +18,7 @@ journalA = 0x61 ∷ 0x00 ∷ []
 
 -- the slot of a key that is called a, under a parent
 abbrev pub slotA : EntryKey → EntryKey → List ℕ
-slotA k parent = entryWords k (record { parent = parent; name = record { source = 0; offset = 0; length = 2 } })
+slotA k parent = slotWords k (record { parent = parent; name = record { source = 0; offset = 0; length = 2 } })
 
 -- the n keys after e:5, each in the one before it
 unfoldable pub nested : ℕ → ℕ → List ℕ
@@ -38,7 +38,7 @@ loopTable = table (slotA (key 9 1) (key 9 1)) 1
 
 -- what a path says, with room for so many bytes: a refusal's number alone, or 0 and the text
 unfoldable pub pathSays : Table → EntryKey → ℕ → List ℕ
-pathSays t k room = outcomeWords (pathText journalA []) (telling journalA [] t depth k room)
+pathSays t k room = outcomeWords (pathText journalA []) (tracingWithText journalA [] t depth k room)
 
 -- the text `\a` so many times
 unfoldable pub timesA : ℕ → List ℕ

@@ -24,5 +24,5 @@ abbrev pub place : ℕ → ℕ → ℕ → NamePlace
 place source offset size = record { source = source; offset = offset; length = size }
 
 -- a name's place, with its text
-abbrev pub decoding : List ℕ → List ℕ → NamePlace → ℕ → Outcome NamePlace
-decoding journal image p room = withText (placeText journal image) room (placing (lengthsOf journal image) p)
+abbrev pub placeDecoding : List ℕ → List ℕ → NamePlace → ℕ → Outcome NamePlace
+placeDecoding journal image p room = withText (placeText journal image) room (placing (lengthsOf journal image) p)

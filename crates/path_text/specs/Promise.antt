@@ -10,12 +10,12 @@ use Rattle.utf16.specs.Decoding.{outcome as decodedOutcome}
 use Rattle.utf16.specs.declared.Decoded.{Decoded}
 use Rattle.entry_slots.specs.declared.NamePlace.{NamePlace}
 use Rattle.path_text.specs.Text.{placeText, placeLength}
-use Rattle.path_text.specs.Decoding.{place, decoding}
+use Rattle.path_text.specs.Decoding.{place, placeDecoding}
 
 -- the name at a place: its answer, and its text
 module _ (journal image : List ℕ) (p : NamePlace) (text : List ℕ) where
   abbrev pub decodeOut : Outcome NamePlace
-  decodeOut = decoding journal image p (length text)
+  decodeOut = placeDecoding journal image p (length text)
 
   pub record Decodes (r : Decoded) (text′ : List ℕ) : Type 0 where
     pub answer : decodedOutcome r ≡ mapOutcome (placeLength journal image) decodeOut

@@ -16,7 +16,7 @@ use Rattle.entry_slots.specs.Table.{Table, known}
 use Rattle.additions.specs.Storing.{addAll, newKeys, keysOf, adding, usedAfter, wordsAfter}
 use Rattle.additions.proofs.CountLaws.{adding-room, used-all}
 use Rattle.additions.proofs.KeptLaws.{all-kept}
-use Rattle.rewind_records.specs.Environment.{Environment, environmentOf, refusalOf, additions}
+use Rattle.rewind_records.specs.Environment.{Environment, environmentOf, rewindRefusal, additions}
 use Rattle.rewind.specs.Starting.{copied, starting, started}
 use Rattle.rewind.specs.Promise.{Starts}
 use Rattle.rewind.specs.declared.Started.{Started}
@@ -35,7 +35,7 @@ module _ (journal image l : List ℕ) (t : Table) (words : List ℕ) where
   refuses : {n : ℕ} → started journal image l t words ≡ refused n → Comes (Refused n) (t .words) words
   refuses e = record { answer = rw e; first = rw e; forward = rw e }
 
-  module _ {n : ℕ} (e : n ≡ refusalOf env t) where
+  module _ {n : ℕ} (e : n ≡ rewindRefusal env t) where
     pub start-refused : (n ≡ 0 → ⊥) → Comes (Refused n) (t .words) words
     unfolding starting
     start-refused h = refuses (tested-refused env t _ e h)

@@ -20,19 +20,19 @@ use Rattle.entry_slots.proofs.IndexLaws.{none-indexed}
 use Rattle.chain.specs.Settings.{depth, levels}
 use Rattle.chain.specs.declared.ResolvedPath.{ResolvedPath}
 use Rattle.chain.specs.Chain.{chainOf, resolved}
-use Rattle.chain.specs.Way.{Slots, placesOf}
-use Rattle.chain.specs.Tracing.{listed}
+use Rattle.chain.specs.Way.{Slots, wayPlaces}
+use Rattle.chain.specs.Tracing.{withPlaces}
 use Rattle.path_text.specs.Decoding.{withText}
 use Rattle.path_text.proofs.CallLaws.{text-fits}
 use Rattle.additions.specs.Entries.{forward}
-use Rattle.rewind_records.specs.Environment.{Environment, environmentOf, entriesOf, refusalOf}
+use Rattle.rewind_records.specs.Environment.{Environment, environmentOf, entriesOf, rewindRefusal}
 use Rattle.additions.specs.Walking.{recordsIn, offsetIn, entryIn}
 use Rattle.rewind.specs.Stepping as step
 use Rattle.rewind_records.specs.Turning.{Next, ended, next, firstOf, turning, turnOutcome}
 use Rattle.rewind_steps.specs.Taking.{Step, stepOf}
 use Rattle.rewind.specs.Stepping.{forwardTable, stepped}
-use Rattle.rewind_steps.specs.Telling.{recordText, nextText}
-use Rattle.rewind.specs.Telling.{told}
+use Rattle.rewind_steps.specs.StepText.{recordText, nextText}
+use Rattle.rewind.specs.Written.{steppedWithText}
 use Rattle.rewind_steps.specs.Making.{making}
 use Rattle.rewind.specs.Promise.{ChainSteps, PathSteps}
 use Rattle.rewind_steps.specs.Promise.{StepAsks, StepLeaves}
@@ -82,8 +82,8 @@ module _ (journal image l : List ℕ) (t : Table) (p : ℕ) where
   pub turned : {e : RecordEntry} → turning env₀ t p ≡ answered (next e) → Turned journal image l t p e
   unfolding turning
   turned {e} =
-      cond-cases (λ (o : Outcome (Next RecordEntry)). o ≡ answered (next e) → Turned journal image l t p e) (eqb (refusalOf env₀ t) 0)
-      (λ h q. from-next (passed env₀ t (eqb-true (refusalOf env₀ t) 0 h)) cc)
+      cond-cases (λ (o : Outcome (Next RecordEntry)). o ≡ answered (next e) → Turned journal image l t p e) (eqb (rewindRefusal env₀ t) 0)
+      (λ h q. from-next (passed env₀ t (eqb-true (rewindRefusal env₀ t) 0 h)) cc)
       (λ h q. let z : _≡_ {A = ℕ} 0 1 = cc in absurd (omega arith))
 
 module _ (journal image l words : List ℕ) (r : Rewind) where
@@ -101,7 +101,7 @@ module _ (journal image l words : List ℕ) (r : Rewind) where
   ComesTo w x y = PathSteps journal image w r words x y
 
   abbrev ComesText : List ℕ → List ℕ → PathStep → List ℕ → List ℕ → List ℕ → Type 0
-  ComesText x y = ComesTo (told journal image l words r (length y)) x y
+  ComesText x y = ComesTo (steppedWithText journal image l words r (length y)) x y
 
   -- what making a step at the front of a text leaves, where it comes to o
   abbrev Out : List ℕ → ℕ → List ℕ → Made → List ℕ → List ℕ → List ℕ → List ℕ → List ℕ → Outcome (Next Step) → Type 0
@@ -110,7 +110,7 @@ module _ (journal image l words : List ℕ) (r : Rewind) where
   refuses : (x : List ℕ) {n : ℕ} → stepped journal image l words r ≡ refused n → ComesChain x (record { next = chained.Refused n; rewind = r }) words x
   refuses x e = record { answer = rw e; state = rw e; forward = rw e; places = rw e }
 
-  refuses-text : (x y : List ℕ) {n : ℕ} → told journal image l words r (length y) ≡ refused n → ComesText x y (record { next = path.Refused n; rewind = r }) words x y
+  refuses-text : (x y : List ℕ) {n : ℕ} → steppedWithText journal image l words r (length y) ≡ refused n → ComesText x y (record { next = path.Refused n; rewind = r }) words x y
   refuses-text x y e = record { answer = rw e; state = rw e; forward = rw e; places = rw e; written = rw e }
 
   module _ {u : Turn} (e : turnOutcome u ≡ turning env t (r .position)) where
@@ -133,7 +133,7 @@ module _ (journal image l words : List ℕ) (r : Rewind) where
 
       pub text-ended : (x y : List ℕ) → ComesText x y (record { next = path.End; rewind = r }) words x y
       text-ended x y =
-          let o : told journal image l words r (length y) ≡ answered ended = text-fits (nextText journal image) (length y) over (omega arith) in
+          let o : steppedWithText journal image l words r (length y) ≡ answered ended = text-fits (nextText journal image) (length y) over (omega arith) in
           record { answer = rw o; state = rw o; forward = rw o; places = rw o; written = rw o }
 
     module _ {d : RecordEntry} (g : u ≡ turn.Entry d) where
@@ -147,7 +147,7 @@ module _ (journal image l words : List ℕ) (r : Rewind) where
       by-adding = rw is
 
       -- a step with text is what is made of that record: a refusal, or the table with the record in it, where its text has room
-      told-making : (room : ℕ) → told journal image l words r room ≡ making journal image t d room
+      told-making : (room : ℕ) → steppedWithText journal image l words r room ≡ making journal image t d room
       told-making room = ap (withText (nextText journal image) room) by-adding
 
       making-cases : (P : Outcome (Next Step) → Type 0) (room : ℕ) → ((k : ℕ) → P (refused k))
@@ -181,7 +181,7 @@ module _ (journal image l words : List ℕ) (r : Rewind) where
         by-made : (P : Outcome (Next Step) → Type 0) → ((k : ℕ) → Out text m nexts v f h n way x (refused k) → P (refused k))
             → ((u : Table) → adding t (forward d ∷ []) ≡ answered u → length (recordText journal image (stepOf depth d u)) ≤ length text
             → Out text m nexts v f h n way x (answered (next (stepOf depth d u))) → P (answered (next (stepOf depth d u))))
-            → P (told journal image l words r (length text))
+            → P (steppedWithText journal image l words r (length text))
         by-made P none some =
             let k : length text - 0 ≡ length text = omega arith in
             let w : Out text m nexts v f h n way x (making journal image t d (length text)) = rw k at c in
@@ -209,7 +209,7 @@ module _ (journal image l words : List ℕ) (r : Rewind) where
               let same : p ≡ resolved (chainOf u depth (d .info .parent)) = cc in
               rw (same, w .forward) (w .way-is .0))
 
-          pub made-to : {q : List ℕ} → q ≡ listed list (placesOf f way (p .names))
+          pub made-to : {q : List ℕ} → q ≡ withPlaces list (wayPlaces f way (p .names))
               → ComesText list text (record { next = path.Record p at; rewind = record { used = used; position = r .position + 1 } }) f q x
           made-to {q} eq =
               by-made (λ o. ComesTo o list text (record { next = path.Record p at; rewind = record { used = used; position = r .position + 1 } }) f q x)
@@ -224,7 +224,7 @@ module _ (journal image l words : List ℕ) (r : Rewind) where
                 answer = λ i. answered (next (record { path = path-is i; text = long i }));
                 state = λ i. record { used = same i; position = r .position + 1 };
                 forward = w .forward;
-                places = eq ∙ ap (listed list) (rw (path-is, w .forward) (w .way-is .1));
+                places = eq ∙ ap (withPlaces list) (rw (path-is, w .forward) (w .way-is .1));
                 written = w .text-is ∙ sets-front text (recordText journal image (stepOf depth d u)) fits;
               })
 
@@ -257,6 +257,6 @@ module _ (journal image l words : List ℕ) (r : Rewind) where
               omega arith
 
           pub chain-taken : (list : List ℕ) {p : ResolvedPath} {m : List ℕ} → p ≡ resolved (chainOf (table s n) depth (d .info .parent))
-              → m ≡ listed list (chainOf (table s n) depth (d .info .parent) .places)
+              → m ≡ withPlaces list (chainOf (table s n) depth (d .info .parent) .places)
               → ComesChain list (record { next = chained.Record p; rewind = record { used = n; position = r .position + 1 } }) s m
           chain-taken list f k = record { answer = rw (step-is, f); state = rw step-is; forward = rw step-is; places = rw step-is k }

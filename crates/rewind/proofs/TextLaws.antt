@@ -17,13 +17,13 @@ use Rattle.additions.specs.InTurn.{andThen}
 use Rattle.chain.specs.Settings.{depth}
 use Rattle.path.proofs.TwoRuns.{Answers, retried}
 use Rattle.additions.specs.Entries.{forward}
-use Rattle.rewind_records.specs.Environment.{Environment, environmentOf, allAnswered, refusalOf, tested}
+use Rattle.rewind_records.specs.Environment.{Environment, environmentOf, allAnswered, rewindRefusal, tested}
 use Rattle.rewind.specs.Starting.{usedBackward, starting}
 use Rattle.rewind_records.specs.Turning.{Next, ended, next, turning}
 use Rattle.rewind_steps.specs.Taking.{taken}
 use Rattle.rewind.specs.Stepping.{forwardTable, stepping, stepped}
-use Rattle.rewind_steps.specs.Telling.{nextText}
-use Rattle.rewind.specs.Telling.{told}
+use Rattle.rewind_steps.specs.StepText.{nextText}
+use Rattle.rewind.specs.Written.{steppedWithText}
 use Rattle.rewind.specs.declared.Rewind.{Rewind}
 use Rattle.additions.specs.declared.entries.RecordEntry.{RecordEntry}
 
@@ -45,8 +45,8 @@ unfolding adding
 adding-not-full t xs = cond-cases NotFull (ltb (slotsIn (t .words)) _) (λ _ e. omega arith) (λ _. tt)
 
 -- the refusals before a rewind's work are 1, 9, 12 and 7
-refusal-not-full : (env : Environment) (t : Table) → refusalOf env t ≡ textFull → ⊥
-unfolding refusalOf
+refusal-not-full : (env : Environment) (t : Table) → rewindRefusal env t ≡ textFull → ⊥
+unfolding rewindRefusal
 refusal-not-full env t =
     let P : ℕ → Type 0 = λ n. n ≡ textFull → ⊥ in
     cond-cases P (ltb domain (env .lengths .journal) || ltb domain (env .lengths .image)) (λ _ e. omega arith)
@@ -55,7 +55,7 @@ refusal-not-full env t =
     (λ _. cond-cases P (not (allInside (env .lengths) (namesIn (t .words) (t .used)))) (λ _ e. omega arith) (λ _ e. omega arith))))
 
 tested-not-full : {A : Type 0} (env : Environment) (t : Table) (o : Outcome A) → NotFull o → NotFull (tested env t o)
-tested-not-full env t o h = cond-cases NotFull (eqb (refusalOf env t) 0) (λ _. h) (λ _. refusal-not-full env t)
+tested-not-full env t o h = cond-cases NotFull (eqb (rewindRefusal env t) 0) (λ _. h) (λ _. refusal-not-full env t)
 
 pub starting-not-full : (env : Environment) (t : Table) (words : List ℕ) → NotFull (starting env t words)
 unfolding starting
@@ -73,7 +73,7 @@ unfolding turning
 stepping-not-full env t depth position = taken-not-full t depth (turning env t position) (tested-not-full env t _ tt)
 
 -- A step that 8 refused, repeated with a text of at least its path's length, is answered.
-pub next-again : (journal image l words : List ℕ) (r : Rewind) (room : ℕ) → told journal image l words r room ≡ refused textFull
+pub next-again : (journal image l words : List ℕ) (r : Rewind) (room : ℕ) → steppedWithText journal image l words r room ≡ refused textFull
     → Answers (nextText journal image) (stepped journal image l words r)
 next-again journal image l words r room =
     retried (nextText journal image) room (stepped journal image l words r)

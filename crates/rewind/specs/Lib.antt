@@ -1,4 +1,4 @@
 pub mod Starting
 pub mod Stepping
-pub mod Telling
+pub mod Written
 pub mod Promise

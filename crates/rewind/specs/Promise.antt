@@ -13,8 +13,8 @@ use Rattle.rewind.specs.Starting.{Tables, started, begun, firstAfter, fo
 use Rattle.rewind_records.specs.Turning.{Next}
 use Rattle.rewind_steps.specs.Taking.{Step}
 use Rattle.rewind.specs.Stepping.{stepped, stepAnswer, rewindAfter, wordsAfter, chainAfter, outcome}
-use Rattle.rewind.specs.Telling.{told, toldAnswer, toldOutcome}
-use Rattle.rewind_steps.specs.Telling.{nextText}
+use Rattle.rewind.specs.Written.{steppedWithText, writtenAnswer, writtenOutcome}
+use Rattle.rewind_steps.specs.StepText.{nextText}
 use Rattle.rewind.specs.declared.Rewind.{Rewind}
 use Rattle.rewind.specs.declared.Started.{Started}
 use Rattle.rewind.specs.declared.ChainStep.{ChainStep}
@@ -75,7 +75,7 @@ NextChainPromise journal image records rewind forward list r =
 
 -- a step with text that comes to o: the text too
 pub record PathSteps (journal image : List ℕ) (o : Outcome (Next Step)) (rewind : Rewind) (words list text : List ℕ) (r : PathStep) (words′ list′ text′ : List ℕ) : Type 0 where
-  pub answer : toldOutcome (r .next) ≡ toldAnswer journal image o
+  pub answer : writtenOutcome (r .next) ≡ writtenAnswer journal image o
   pub state : r .rewind ≡ rewindAfter o rewind
   pub forward : words′ ≡ wordsAfter o words
   pub places : list′ ≡ chainAfter o list
@@ -83,5 +83,5 @@ pub record PathSteps (journal image : List ℕ) (o : Outcome (Next Step)) (rewin
 
 abbrev pub NextPromise : Lent → Lent → Lent → Rewind → Lent → Lent → Lent → PathStep → Type 0
 NextPromise journal image records rewind forward list text r =
-    let o = told (before journal) (before image) (before records) (before forward) rewind (length (before text)) in
+    let o = steppedWithText (before journal) (before image) (before records) (before forward) rewind (length (before text)) in
     PathSteps (before journal) (before image) o rewind (before forward) (before list) (before text) r (after forward) (after list) (after text)

@@ -6,7 +6,7 @@ use Rattle.entry_slots.specs.Table.{Table, table}
 use Rattle.additions.specs.InTurn.{andThen}
 use Rattle.chain.specs.Settings.{depth}
 use Rattle.chain.specs.Chain.{resolved}
-use Rattle.chain.specs.Tracing.{listed}
+use Rattle.chain.specs.Tracing.{withPlaces}
 use Rattle.chain.specs.declared.ResolvedPath.{ResolvedPath}
 use Rattle.rewind_records.specs.Environment.{Environment, environmentOf}
 use Rattle.rewind_records.specs.Turning.{Next, ended, next, mapNext, turning}
@@ -46,7 +46,7 @@ wordsAfter (answered (next x)) s = x .table .words
 abbrev pub chainAfter : Outcome (Next Step) → List ℕ → List ℕ
 chainAfter (refused n) l = l
 chainAfter (answered ended) l = l
-chainAfter (answered (next x)) l = listed l (x .chain .places)
+chainAfter (answered (next x)) l = withPlaces l (x .chain .places)
 
 -- what it answers: the names and the end of the parent's chain
 abbrev pub stepAnswer : Outcome (Next Step) → Outcome (Next ResolvedPath)

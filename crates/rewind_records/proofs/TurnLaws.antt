@@ -13,31 +13,31 @@ use Rattle.walk.proofs.ChoiceLaws.{cond-cases, or-left, or-right}
 use Rattle.entry_slots.specs.Names.{allInside}
 use Rattle.entry_slots.specs.Slots.{slotsIn, namesIn}
 use Rattle.entry_slots.specs.Table.{Table}
-use Rattle.rewind_records.specs.Environment.{Environment, environmentWith, allAnswered, entriesOf, refusalOf, tested}
+use Rattle.rewind_records.specs.Environment.{Environment, environmentWith, allAnswered, entriesOf, rewindRefusal, tested}
 use Rattle.additions.specs.Walking.{recordsIn, entryIn}
 use Rattle.rewind_records.specs.Turning.{Next, ended, next, firstOf, turning}
 use Rattle.additions.specs.declared.entries.RecordEntry.{RecordEntry}
 use Rattle.rewind_records.proofs.RecordLaws.{next-is, none-left}
 
 module _ (env : Environment) (t : Table) where
-  pub test-journal : domain < env .lengths .journal → aboveDomain ≡ refusalOf env t
-  unfolding refusalOf
+  pub test-journal : domain < env .lengths .journal → aboveDomain ≡ rewindRefusal env t
+  unfolding rewindRefusal
   test-journal h = sym (simp (lt-ltb domain (env .lengths .journal) h))
 
   module _ (a : env .lengths .journal ≤ domain) where
-    pub test-image : domain < env .lengths .image → aboveDomain ≡ refusalOf env t
-    unfolding refusalOf
+    pub test-image : domain < env .lengths .image → aboveDomain ≡ rewindRefusal env t
+    unfolding rewindRefusal
     test-image h = sym (simp (le-ltb domain (env .lengths .journal) a, lt-ltb domain (env .lengths .image) h))
 
     module _ (b : env .lengths .image ≤ domain) where
-      pub test-state : slotsIn (t .words) < t .used → badState ≡ refusalOf env t
-      unfolding refusalOf
+      pub test-state : slotsIn (t .words) < t .used → badState ≡ rewindRefusal env t
+      unfolding rewindRefusal
       test-state h =
           sym (simp (le-ltb domain (env .lengths .journal) a, le-ltb domain (env .lengths .image) b, lt-ltb (slotsIn (t .words)) (t .used) h))
 
       module _ (u : t .used ≤ slotsIn (t .words)) {x : Bool} (e : x ≡ allAnswered (env .records)) where
-        pub test-records : x ≡ false → notARecord ≡ refusalOf env t
-        unfolding refusalOf
+        pub test-records : x ≡ false → notARecord ≡ rewindRefusal env t
+        unfolding rewindRefusal
         test-records n =
             let f : allAnswered (env .records) ≡ false = sym e ∙ n in
             sym (simp (le-ltb domain (env .lengths .journal) a, le-ltb domain (env .lengths .image) b, le-ltb (slotsIn (t .words)) (t .used) u, f))
@@ -46,14 +46,14 @@ module _ (env : Environment) (t : Table) where
           records : allAnswered (env .records) ≡ true
           records = sym e ∙ y
 
-          pub test-names : z ≡ false → nameOutside ≡ refusalOf env t
-          unfolding refusalOf
+          pub test-names : z ≡ false → nameOutside ≡ rewindRefusal env t
+          unfolding rewindRefusal
           test-names n =
               let f : allInside (env .lengths) (namesIn (t .words) (t .used)) ≡ false = sym g ∙ n in
               sym (simp (le-ltb domain (env .lengths .journal) a, le-ltb domain (env .lengths .image) b, le-ltb (slotsIn (t .words)) (t .used) u, records, f))
 
-          pub test-none : z ≡ true → 0 ≡ refusalOf env t
-          unfolding refusalOf
+          pub test-none : z ≡ true → 0 ≡ rewindRefusal env t
+          unfolding rewindRefusal
           test-none n =
               let f : allInside (env .lengths) (namesIn (t .words) (t .used)) ≡ true = sym g ∙ n in
               sym (simp (le-ltb domain (env .lengths .journal) a, le-ltb domain (env .lengths .image) b, le-ltb (slotsIn (t .words)) (t .used) u, records, f))
@@ -69,8 +69,8 @@ pub record Passed (env : Environment) (t : Table) : Type 0 where
 never : {A : Type 0} {n : ℕ} → 0 < n → n ≡ 0 → A
 never h e = absurd (omega arith)
 
-pub passed : (env : Environment) (t : Table) → refusalOf env t ≡ 0 → Passed env t
-unfolding refusalOf
+pub passed : (env : Environment) (t : Table) → rewindRefusal env t ≡ 0 → Passed env t
+unfolding rewindRefusal
 passed env t =
     let P : ℕ → Type 0 = λ n. n ≡ 0 → Passed env t in
     cond-cases P (ltb domain (env .lengths .journal) || ltb domain (env .lengths .image)) (λ _ e. never (omega arith) e) λ d.
@@ -87,14 +87,14 @@ passed env t =
 
 -- the outcome after the tests
 module _ {A : Type 0} (env : Environment) (t : Table) (o : Outcome A) where
-  pub tested-refused : {n : ℕ} → n ≡ refusalOf env t → (n ≡ 0 → ⊥) → tested env t o ≡ refused n
+  pub tested-refused : {n : ℕ} → n ≡ rewindRefusal env t → (n ≡ 0 → ⊥) → tested env t o ≡ refused n
   tested-refused e h = rw (← e, ne-eqb _ _ h)
 
-  pub tested-passed : {n : ℕ} → n ≡ refusalOf env t → n ≡ 0 → tested env t o ≡ o
-  tested-passed e h = let f : refusalOf env t ≡ 0 = sym e ∙ h in rw f
+  pub tested-passed : {n : ℕ} → n ≡ rewindRefusal env t → n ≡ 0 → tested env t o ≡ o
+  tested-passed e h = let f : rewindRefusal env t ≡ 0 = sym e ∙ h in rw f
 
 -- the record that is next
-module _ (journal l : List ℕ) (m p : ℕ) (t : Table) {n : ℕ} (e : n ≡ refusalOf (environmentWith journal m l) t) where
+module _ (journal l : List ℕ) (m p : ℕ) (t : Table) {n : ℕ} (e : n ≡ rewindRefusal (environmentWith journal m l) t) where
   abbrev env : Environment
   env = environmentWith journal m l
 

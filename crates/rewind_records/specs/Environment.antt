@@ -47,8 +47,8 @@ additions env = map backward (reverse (entriesOf (env .records)))
 
 -- the refusal of a rewind over a table, or 0. 1: journal or image is above the domain; 9: the used slots are above the slots; 12: a listed
 -- record is none; 7: the name's place of a used slot is outside its slice
-unfoldable pub refusalOf : Environment → Table → ℕ
-refusalOf env t =
+unfoldable pub rewindRefusal : Environment → Table → ℕ
+rewindRefusal env t =
     cond (ltb domain (env .lengths .journal) || ltb domain (env .lengths .image)) aboveDomain
     (cond (ltb (slotsIn (t .words)) (t .used)) badState
     (cond (not (allAnswered (env .records))) notARecord
@@ -57,4 +57,4 @@ refusalOf env t =
 
 -- that refusal, or what comes after it
 abbrev pub tested : {A : Type 0} → Environment → Table → Outcome A → Outcome A
-tested env t o = cond (eqb (refusalOf env t) 0) o (refused (refusalOf env t))
+tested env t o = cond (eqb (rewindRefusal env t) 0) o (refused (rewindRefusal env t))

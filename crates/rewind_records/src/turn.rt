@@ -5,7 +5,7 @@ ghost use Rattle.usn_record.specs.Record.{isAnswered};
 ghost use Rattle.additions.specs.Entries.{entryAt};
 ghost use Rattle.additions.specs.Walking.{offsetsIn};
 ghost use Rattle.entry_slots.specs.Table.{table};
-ghost use Rattle.rewind_records.specs.Environment.{allAnswered, environmentWith, refusalOf};
+ghost use Rattle.rewind_records.specs.Environment.{allAnswered, environmentWith, rewindRefusal};
 ghost use Rattle.rewind_records.specs.Turning.{turning, turnOutcome};
 use additions::entries::RecordEntry;
 use additions::entries::entry_at;
@@ -55,7 +55,7 @@ pub fn refusal(
     slots: &[u64],
     used: usize,
 ) -> u32
-    ensures { λ r. ⌜ r ≡ refusalOf (environmentWith (now (journal .entry)) «image_length» (now (records .entry))) (table (now (slots .entry)) used) ⌝ }
+    ensures { λ r. ⌜ r ≡ rewindRefusal (environmentWith (now (journal .entry)) «image_length» (now (records .entry))) (table (now (slots .entry)) used) ⌝ }
 {
     if DOMAIN < journal.len() {
         return ABOVE_DOMAIN;

@@ -8,7 +8,7 @@ use Rattle.walk.specs.Outcome.{Outcome, refused, answered}
 use Rattle.rewind_records.specs.Turning.{Next, ended, next}
 use Rattle.rewind_steps.specs.Taking.{Step}
 use Rattle.rewind.specs.Stepping.{wordsAfter, rewindAfter}
-use Rattle.rewind.specs.Telling.{told}
+use Rattle.rewind.specs.Written.{steppedWithText}
 use Rattle.rewind_run.specs.Running.{Run, oneMore, onward, running}
 use Rattle.rewind_run.specs.Calls.{roomsOn, rooms, calls, Left, callsLeave, gathered}
 
@@ -32,7 +32,7 @@ module _ (journal image records : List ℕ) (room : ℕ) where
   pub as-steps : (n : ℕ) (r : Run) → run n r ≡ gathered journal image r (outcomesOf n r)
   unfolding running rooms calls
   as-steps zero r = refl
-  as-steps (suc n) r = go (told journal image records (r .words) (r .rewind) (room - length (r .text))) (as-steps n)
+  as-steps (suc n) r = go (steppedWithText journal image records (r .words) (r .rewind) (room - length (r .text))) (as-steps n)
     where
       go : (o : Outcome (Next Step)) → ((q : Run) → run n q ≡ gathered journal image q (outcomesOf n q))
           → onward (run n) journal image r o
@@ -44,7 +44,7 @@ module _ (journal image records : List ℕ) (room : ℕ) where
   pub as-steps-left : (n : ℕ) (r : Run) → leftBy (run n r) ≡ leftOf n r
   unfolding running rooms callsLeave
   as-steps-left zero r = refl
-  as-steps-left (suc n) r = go (told journal image records (r .words) (r .rewind) (room - length (r .text))) (as-steps-left n)
+  as-steps-left (suc n) r = go (steppedWithText journal image records (r .words) (r .rewind) (room - length (r .text))) (as-steps-left n)
     where
       go : (o : Outcome (Next Step)) → ((q : Run) → leftBy (run n q) ≡ leftOf n q)
           → leftBy (onward (run n) journal image r o) ≡ callsLeave journal image records (roomsOn (roomsOf n) journal image r o) (wordsAfter o (r .words)) (rewindAfter o (r .rewind))

@@ -14,10 +14,10 @@ use Rattle.entry_slots.specs.Table.{Table}
 use Rattle.entry_slots.specs.Index.{headsOf, nextsOf, enough}
 use Rattle.entry_slots.proofs.IndexLaws.{no-heads, no-nexts}
 use Rattle.entry_table.proofs.SeedLaws.{nexts-long, index-again, index-then, enough-room}
-use Rattle.rewind_records.specs.Environment.{Environment, environmentOf, refusalOf}
+use Rattle.rewind_records.specs.Environment.{Environment, environmentOf, rewindRefusal}
 use Rattle.rewind_records.specs.Turning.{turning}
 use Rattle.rewind.specs.Stepping.{forwardTable}
-use Rattle.rewind.specs.Telling.{told}
+use Rattle.rewind.specs.Written.{steppedWithText}
 use Rattle.rewind.specs.declared.Rewind.{Rewind}
 use Rattle.rewind_records.proofs.TurnLaws.{passed, turn-refused}
 use Rattle.rewind_run.specs.Running.{Run, runFrom, onward, running, runTable}
@@ -54,16 +54,16 @@ module _ (journal image records words : List ℕ) (r : Rewind) (heads nexts ends
   run-zero z =
       still 0 (ap (λ (k : ℕ). running journal image records (length text) k (runFrom words r)) z ∙ run-none journal image records (length text) (runFrom words r)) (rw z)
 
-  module _ {n : ℕ} (e : n ≡ refusalOf env t) (some : 0 < length ends) where
+  module _ {n : ℕ} (e : n ≡ rewindRefusal env t) (some : 0 < length ends) where
     pub run-refused : (n ≡ 0 → ⊥) → Answers (record { steps = 0; refusal = n; rewind = r }) words heads nexts ends text
     unfolding indexes
     run-refused h =
         let room : ℕ = length text in
         let k : ℕ = length ends - 1 in
         let fuel : length ends ≡ suc k = omega arith in
-        let o : told journal image records words r (room - 0) ≡ refused n =
+        let o : steppedWithText journal image records words r (room - 0) ≡ refused n =
         (let q : turning env t (r .position) ≡ refused n = sym (turn-refused journal records (length image) (r .position) t e h) in rw q) in
-        let b : eqb (refusalOf env t) 0 ≡ false = ne-eqb _ _ (λ z. h (e ∙ z)) in
+        let b : eqb (rewindRefusal env t) 0 ≡ false = ne-eqb _ _ (λ z. h (e ∙ z)) in
         still n
         (ap (λ (j : ℕ). running journal image records room j (runFrom words r)) fuel
         ∙ run-turn journal image records room k (runFrom words r)
@@ -71,7 +71,7 @@ module _ (journal image records words : List ℕ) (r : Rewind) (heads nexts ends
         (rw (lt-ltb 0 (length ends) some, b))
 
     module _ (h : n ≡ 0) where
-      run-tests : refusalOf env t ≡ 0
+      run-tests : rewindRefusal env t ≡ 0
       run-tests = sym e ∙ h
 
       is-built : isBuilt ≡ enough (slotsIn words) heads nexts

@@ -14,13 +14,13 @@ use Rattle.entry_slots.specs.Table.{Table, table}
 use Rattle.entry_slots.specs.Index.{headsOf, nextsOf}
 use Rattle.entry_table.proofs.SeedLaws.{heads-long, nexts-long, index-again, index-then}
 use Rattle.chain.specs.declared.ResolvedPath.{ResolvedPath}
-use Rattle.rewind_records.specs.Environment.{environmentOf, refusalOf}
+use Rattle.rewind_records.specs.Environment.{environmentOf, rewindRefusal}
 use Rattle.additions.specs.Walking.{recordsIn}
 use Rattle.rewind_records.specs.Turning.{Next, ended, next}
 use Rattle.rewind_steps.specs.Taking.{Step}
 use Rattle.rewind.specs.Stepping.{stateOf}
-use Rattle.rewind_steps.specs.Telling.{recordText}
-use Rattle.rewind.specs.Telling.{told}
+use Rattle.rewind_steps.specs.StepText.{recordText}
+use Rattle.rewind.specs.Written.{steppedWithText}
 use Rattle.rewind.specs.declared.Rewind.{Rewind}
 use Rattle.rewind_run.specs.declared.RewindRun.{RewindRun}
 use Rattle.rewind_run.specs.Running.{Run, runFrom, onward, running, ran}
@@ -41,7 +41,7 @@ written-behind l vs more h =
 
 -- a run that goes on, and one that was asked for no more
 pub run-turn : (journal image records : List ℕ) (room n : ℕ) (r : Run)
-    → running journal image records room (suc n) r ≡ onward (running journal image records room n) journal image r (told journal image records (r .words) (r .rewind) (room - length (r .text)))
+    → running journal image records room (suc n) r ≡ onward (running journal image records room n) journal image r (steppedWithText journal image records (r .words) (r .rewind) (room - length (r .text)))
 unfolding running
 run-turn journal image records room n r = refl
 
@@ -93,7 +93,7 @@ module _ (journal image records words₀ : List ℕ) (r₀ : Rewind) (heads₀ n
     pub texts : List ℕ
     pub marks : List ℕ
     pub leads : running journal image records room (asked - i) (nowAt words used position texts marks) ≡ all
-    pub passes : refusalOf (environmentOf journal image records) (table words used) ≡ 0
+    pub passes : rewindRefusal (environmentOf journal image records) (table words used) ≡ 0
     pub text-is : text ≡ overwrite text₀ texts
     pub ends-are : ends ≡ overwrite ends₀ marks
     pub words-long : length words ≡ length words₀
@@ -181,7 +181,7 @@ module _ (journal image records words₀ : List ℕ) (r₀ : Rewind) (heads₀ n
 
     module _ (less : i < length ends) where
       abbrev o : Outcome (Next Step)
-      o = told journal image records words (stateOf used position) (length text - at)
+      o = steppedWithText journal image records words (stateOf used position) (length text - at)
 
       abbrev rest : ℕ
       rest = asked - (i + 1)
@@ -190,7 +190,7 @@ module _ (journal image records words₀ : List ℕ) (r₀ : Rewind) (heads₀ n
       turns =
           let left : length text - at ≡ room - length (w .texts) = omega (arith, w .text-long, w .at-is) in
           let fuel : suc rest ≡ asked - i = omega (arith, w .ends-long) in
-          ap (λ (m : ℕ). onward (running journal image records room rest) journal image now (told journal image records words (stateOf used position) m)) left
+          ap (λ (m : ℕ). onward (running journal image records room rest) journal image now (steppedWithText journal image records words (stateOf used position) m)) left
           ∙ sym (run-turn journal image records room rest now)
           ∙ ap (λ (k : ℕ). running journal image records room k now) fuel
           ∙ w .leads

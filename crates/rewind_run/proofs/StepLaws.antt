@@ -19,13 +19,13 @@ use Rattle.chain.specs.Settings.{depth}
 use Rattle.path_text.specs.Decoding.{withText}
 use Rattle.path_text.proofs.CallLaws.{text-fits}
 use Rattle.additions.specs.Entries.{forward}
-use Rattle.rewind_records.specs.Environment.{Environment, environmentOf, refusalOf}
+use Rattle.rewind_records.specs.Environment.{Environment, environmentOf, rewindRefusal}
 use Rattle.additions.specs.Walking.{recordsIn, offsetIn, entryIn}
 use Rattle.rewind_records.specs.Turning.{ended, next, turning}
 use Rattle.rewind_steps.specs.Taking.{Step, stepOf}
 use Rattle.rewind.specs.Stepping.{stepped, stateOf}
-use Rattle.rewind_steps.specs.Telling.{recordText, nextText}
-use Rattle.rewind.specs.Telling.{told}
+use Rattle.rewind_steps.specs.StepText.{recordText, nextText}
+use Rattle.rewind.specs.Written.{steppedWithText}
 use Rattle.additions.specs.declared.entries.RecordEntry.{RecordEntry}
 use Rattle.additions.proofs.EntryLaws.{entry-inside}
 use Rattle.rewind_records.proofs.RecordLaws.{number-answered}
@@ -35,7 +35,7 @@ use Rattle.rewind_steps.specs.Promise.{StepLeaves}
 use Rattle.rewind_steps.specs.declared.Made.{Made}
 use Rattle.rewind_steps.specs.declared.Made.the-variants.{End}
 
-module _ (journal image l words : List ℕ) (used position : ℕ) (pass : refusalOf (environmentOf journal image l) (table words used) ≡ 0) where
+module _ (journal image l words : List ℕ) (used position : ℕ) (pass : rewindRefusal (environmentOf journal image l) (table words used) ≡ 0) where
   abbrev env : Environment
   env = environmentOf journal image l
 
@@ -46,19 +46,19 @@ module _ (journal image l words : List ℕ) (used position : ℕ) (pass : refusa
   tests = passed env t pass
 
   -- no record is left
-  pub told-end : (room : ℕ) → recordsIn l ≤ position → told journal image l words (stateOf used position) room ≡ answered ended
+  pub told-end : (room : ℕ) → recordsIn l ≤ position → steppedWithText journal image l words (stateOf used position) room ≡ answered ended
   told-end room k =
       let e : turning env t position ≡ answered ended = sym (turn-end journal l (length image) position t (sym pass) refl k) in
       let o : stepped journal image l words (stateOf used position) ≡ answered ended = rw e in
       text-fits (nextText journal image) room o (omega arith)
 
   pub step-end : (at : ℕ) (heads nexts text : List ℕ) {way : List ℕ} → Indexed t heads nexts → recordsIn l ≤ position
-      → StepLeaves journal image at (length heads) nexts text (told journal image l words (stateOf used position) (length text - at)) t End words heads nexts way text
+      → StepLeaves journal image at (length heads) nexts text (steppedWithText journal image l words (stateOf used position) (length text - at)) t End words heads nexts way text
   step-end at heads nexts text index k = rw (told-end (length text - at) k) (record { answer = refl; forward = refl; heads-are = index .0; nexts-are = index .1; way-is = tt; text-is = refl })
 
   module _ {e : RecordEntry} (near : position < recordsIn l) (is : e ≡ entryIn journal l position) where
     -- the next record is the one at the position, and its name is inside
-    pub told-next : (room : ℕ) → told journal image l words (stateOf used position) room ≡ making journal image t e room
+    pub told-next : (room : ℕ) → steppedWithText journal image l words (stateOf used position) room ≡ making journal image t e room
     told-next room =
         let f : turning env t position ≡ answered (next e) = sym (turn-next journal l (length image) position t (sym pass) refl near is) in
         rw f
@@ -68,13 +68,13 @@ module _ (journal image l words : List ℕ) (used position : ℕ) (pass : refusa
 
     pub step-next : (at : ℕ) (heads nexts text : List ℕ) {r : Made} {f h n way x : List ℕ}
         → StepLeaves journal image at (length heads) nexts text (making journal image t e (length text - at)) t r f h n way x
-        → StepLeaves journal image at (length heads) nexts text (told journal image l words (stateOf used position) (length text - at)) t r f h n way x
+        → StepLeaves journal image at (length heads) nexts text (steppedWithText journal image l words (stateOf used position) (length text - at)) t r f h n way x
     step-next at heads nexts text c = rw (told-next (length text - at)) c
 
   -- what holds of a step that is made
   pub record MadeStep (room : ℕ) (x : Step) : Type 0 where
     pub near : position < recordsIn l
-    pub passes : refusalOf env (x .table) ≡ 0
+    pub passes : rewindRefusal env (x .table) ≡ 0
     pub long : length (x .table .words) ≡ length words
     pub fits : length (recordText journal image x) ≤ room
 
@@ -106,7 +106,7 @@ module _ (journal image l words : List ℕ) (used position : ℕ) (pass : refusa
             let same : stepOf depth entry u ≡ x = cc in
             rw (← same) (of-table u g (ltb-false room _ h))
 
-  pub made-step : (room : ℕ) {x : Step} → told journal image l words (stateOf used position) room ≡ answered (next x) → MadeStep room x
+  pub made-step : (room : ℕ) {x : Step} → steppedWithText journal image l words (stateOf used position) room ≡ answered (next x) → MadeStep room x
   made-step room {x} q = go (ltb position (recordsIn l)) refl
     where
       go : (b : Bool) → ltb position (recordsIn l) ≡ b → MadeStep room x

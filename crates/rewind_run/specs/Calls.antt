@@ -6,7 +6,7 @@ use Rattle.walk.specs.Outcome.{Outcome, refused, answered}
 use Rattle.rewind_records.specs.Turning.{Next, ended, next}
 use Rattle.rewind_steps.specs.Taking.{Step}
 use Rattle.rewind.specs.Stepping.{wordsAfter, rewindAfter}
-use Rattle.rewind.specs.Telling.{told}
+use Rattle.rewind.specs.Written.{steppedWithText}
 use Rattle.rewind.specs.declared.Rewind.{Rewind}
 use Rattle.rewind_run.specs.Running.{Run, oneMore, onward}
 
@@ -21,13 +21,13 @@ unfoldable pub rooms : List ℕ → List ℕ → List ℕ → ℕ → ℕ → Ru
 rooms journal image records room zero r = []
 rooms journal image records room (suc n) r =
     let left = room - length (r .text) in
-    left ∷ roomsOn (rooms journal image records room n) journal image r (told journal image records (r .words) (r .rewind) left)
+    left ∷ roomsOn (rooms journal image records room n) journal image r (steppedWithText journal image records (r .words) (r .rewind) left)
 
 -- what calls with these rooms come to
 unfoldable pub calls : List ℕ → List ℕ → List ℕ → List ℕ → List ℕ → Rewind → List (Outcome (Next Step))
 calls journal image records [] words r = []
 calls journal image records (room ∷ more) words r =
-    let o = told journal image records words r room in
+    let o = steppedWithText journal image records words r room in
     o ∷ calls journal image records more (wordsAfter o words) (rewindAfter o r)
 
 -- the words of the forward table and the state of the rewind after them
@@ -38,7 +38,7 @@ pub record Left : Type 0 where
 unfoldable pub callsLeave : List ℕ → List ℕ → List ℕ → List ℕ → List ℕ → Rewind → Left
 callsLeave journal image records [] words r = record { words = words; rewind = r }
 callsLeave journal image records (room ∷ more) words r =
-    let o = told journal image records words r room in
+    let o = steppedWithText journal image records words r room in
     callsLeave journal image records more (wordsAfter o words) (rewindAfter o r)
 
 -- a run by what its calls come to

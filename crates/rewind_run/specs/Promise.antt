@@ -7,9 +7,9 @@ use Rattle.walk.specs.Lent.{Lent, before, after}
 use Rattle.walk.specs.Lists.{overwrite}
 use Rattle.entry_slots.specs.Slots.{slotsIn}
 use Rattle.entry_slots.specs.Index.{headsOf, nextsOf, Indexed}
-use Rattle.rewind_records.specs.Environment.{environmentOf, refusalOf}
+use Rattle.rewind_records.specs.Environment.{environmentOf, rewindRefusal}
 use Rattle.rewind.specs.Stepping.{forwardTable}
-use Rattle.rewind.specs.Telling.{told}
+use Rattle.rewind.specs.Written.{steppedWithText}
 use Rattle.rewind.specs.declared.Rewind.{Rewind}
 use Rattle.rewind_steps.specs.Promise.{StepPromise}
 use Rattle.rewind_run.specs.Running.{Run, ran, runAnswer, runTable}
@@ -21,14 +21,14 @@ use Rattle.rewind_run.specs.Indexing.{indexes, headsRun, nextsRun}
 
 -- what the tests before a run have shown: none refuses, and the index is the forward table's, with a link for every slot
 pub record RunAsks (journal image records words : List ℕ) (rewind : Rewind) (heads nexts : List ℕ) : Type 0 where
-  pub passes : refusalOf (environmentOf journal image records) (forwardTable words rewind) ≡ 0
+  pub passes : rewindRefusal (environmentOf journal image records) (forwardTable words rewind) ≡ 0
   pub index : Indexed (forwardTable words rewind) heads nexts
   pub wide : 0 < length heads → slotsIn words ≤ length nexts
 
 -- the next step of a run
 abbrev pub RunStepPromise : Lent → Lent → Lent → Lent → Lent → Lent → Lent → Lent → Standing → Made → Type 0
 RunStepPromise journal image forward heads nexts way text records standing =
-    let o = told (before journal) (before image) (before records) (before forward) (standing .rewind) (length (before text) - standing .at) in
+    let o = steppedWithText (before journal) (before image) (before records) (before forward) (standing .rewind) (length (before text) - standing .at) in
     StepPromise journal image forward heads nexts way text (standing .at) o (forwardTable (before forward) (standing .rewind))
 
 -- many steps: what they come to, and what is left of them where the tests have passed

@@ -8,8 +8,8 @@ use Rattle.entry_slots.specs.Table.{Table}
 use Rattle.rewind_records.specs.Turning.{Next, ended, next}
 use Rattle.rewind_steps.specs.Taking.{Step}
 use Rattle.rewind.specs.Stepping.{forwardTable}
-use Rattle.rewind_steps.specs.Telling.{recordText}
-use Rattle.rewind.specs.Telling.{told}
+use Rattle.rewind_steps.specs.StepText.{recordText}
+use Rattle.rewind.specs.Written.{steppedWithText}
 use Rattle.rewind.specs.declared.Rewind.{Rewind}
 use Rattle.rewind_run.specs.declared.RewindRun.{RewindRun}
 
@@ -49,7 +49,7 @@ onward more journal image r (answered (next x)) = more (oneMore journal image r 
 unfoldable pub running : List ℕ → List ℕ → List ℕ → ℕ → ℕ → Run → Run
 running journal image records room zero r = r
 running journal image records room (suc n) r =
-    onward (running journal image records room n) journal image r (told journal image records (r .words) (r .rewind) (room - length (r .text)))
+    onward (running journal image records room n) journal image r (steppedWithText journal image records (r .words) (r .rewind) (room - length (r .text)))
 
 -- a call's: it is asked for as many steps as ends are lent
 abbrev pub ran : List ℕ → List ℕ → List ℕ → List ℕ → Rewind → ℕ → ℕ → Run

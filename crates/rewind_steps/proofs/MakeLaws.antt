@@ -23,7 +23,7 @@ use Rattle.entry_table.proofs.SeedLaws.{heads-long, nexts-long, index-again, in
 use Rattle.chain.specs.Settings.{depth}
 use Rattle.path.specs.Ways.{entryText}
 use Rattle.chain.specs.Chain.{chainOf}
-use Rattle.chain.specs.Way.{Slots, placesOf, chainBy, resolvedBy}
+use Rattle.chain.specs.Way.{Slots, wayPlaces, chainBy, resolvedBy}
 use Rattle.chain.specs.Promise.{Climbs}
 use Rattle.chain.specs.declared.ResolvedPath.{ResolvedPath}
 use Rattle.chain.specs.declared.way.Climbed.{Climbed}
@@ -34,7 +34,7 @@ use Rattle.path.specs.declared.ways.Behind.{Behind}
 use Rattle.path.specs.declared.ways.Behind.the-variants as put
 use Rattle.additions.specs.Entries.{forward}
 use Rattle.rewind_steps.specs.Taking.{Step, stepWith}
-use Rattle.rewind_steps.specs.Telling.{recordText, telling}
+use Rattle.rewind_steps.specs.StepText.{recordText, stepWithText}
 use Rattle.additions.specs.declared.entries.RecordEntry.{RecordEntry}
 use Rattle.rewind_steps.specs.Making.{making, tableAfter}
 use Rattle.rewind_steps.specs.Promise.{StepAsks, StepLeaves}
@@ -63,7 +63,7 @@ module _ (journal image : List ℕ) (u : Table) (parent : EntryKey) (name : Name
   slots : Slots (u .words) way′ (length (chainOf u depth parent .places))
   slots = rw (climbed-names u parent up) at (climbed-slots u parent up fits)
 
-  names-are : placesOf (u .words) way′ (length (chainOf u depth parent .places)) ≡ chainOf u depth parent .places
+  names-are : wayPlaces (u .words) way′ (length (chainOf u depth parent .places)) ≡ chainOf u depth parent .places
   names-are = rw (climbed-names u parent up) at (climbed-places u parent up)
 
   same-text : more ≡ recordText journal image step
@@ -75,7 +75,7 @@ module _ (journal image : List ℕ) (u : Table) (parent : EntryKey) (name : Name
     g = rw (up .told) at told
 
     abbrev Tells : Made → List ℕ → List ℕ → List ℕ → List ℕ → List ℕ → Type 0
-    Tells = StepLeaves journal image at m nexts text (telling journal image u parent name (length text - at)) t
+    Tells = StepLeaves journal image at m nexts text (stepWithText journal image u parent name (length text - at)) t
 
     pub tell-to : {to : ℕ} {h n : List ℕ} {q : ResolvedPath} → v ≡ put.To to → q ≡ resolvedBy p → h ≡ headsOf m u → n ≡ nextsOf m u nexts → Tells (To to (u .used) q) (u .words) h n way′ y
     tell-to {to} {h} {n} {q} f eq eh en = go (ltb (length text - at) (length more)) refl
@@ -197,10 +197,10 @@ module _ (journal image : List ℕ) (t : Table) (e : RecordEntry) (text : List �
 
         pub make-told : {slot : ℕ} {key : EntryKey} {info : EntryInfo} → slot ≡ slotFor t (e .key) → key ≡ keyAt (t .words) slot → info ≡ infoAt (t .words) slot
             → {r : Made} {f′ h′ n′ w′ x′ : List ℕ}
-            → StepLeaves journal image at (length h) n text (telling journal image (table s k) (e .info .parent) (e .info .name) (length text - at)) (table (putAt s slot key info) (t .used)) r f′ h′ n′ w′ x′
+            → StepLeaves journal image at (length h) n text (stepWithText journal image (table s k) (e .info .parent) (e .info .name) (length text - at)) (table (putAt s slot key info) (t .used)) r f′ h′ n′ w′ x′
             → Makes r f′ h′ n′ w′ x′
         make-told qs qk qi c =
-            let o′ = telling journal image (table s k) (e .info .parent) (e .info .name) (length text - at) in
+            let o′ = stepWithText journal image (table s k) (e .info .parent) (e .info .name) (length text - at) in
             let goes′ : adding t (forward e ∷ []) ≡ answered (table s k) = rw (← q) goes in
             let c′ = rw (back qs qk qi) at c in
             let both = index-then (length heads) (table s k) nexts heads-are nexts-are {u = tableAfter o′ t} {o = answered (tableAfter o′ t)} refl (c′ .heads-are) (c′ .nexts-are) in

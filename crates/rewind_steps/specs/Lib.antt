@@ -1,4 +1,4 @@
 pub mod Taking
-pub mod Telling
+pub mod StepText
 pub mod Making
 pub mod Promise

@@ -8,11 +8,11 @@ use Rattle.walk.specs.Outcome.{Outcome, refused, answered}
 use Rattle.entry_slots.specs.Table.{Table}
 use Rattle.chain.specs.Settings.{depth}
 use Rattle.chain.specs.Chain.{resolved}
-use Rattle.chain.specs.Way.{Slots, placesOf}
+use Rattle.chain.specs.Way.{Slots, wayPlaces}
 use Rattle.path_text.specs.Decoding.{withText}
 use Rattle.rewind_records.specs.Turning.{Next, ended, next}
 use Rattle.rewind_steps.specs.Taking.{Step, taken}
-use Rattle.rewind_steps.specs.Telling.{recordText, nextText}
+use Rattle.rewind_steps.specs.StepText.{recordText, nextText}
 use Rattle.additions.specs.declared.entries.RecordEntry.{RecordEntry}
 use Rattle.rewind_steps.specs.declared.Made.{Made}
 use Rattle.rewind_steps.specs.declared.Made.the-variants.{To, End, Refused}
@@ -45,4 +45,4 @@ abbrev pub WayAfter : Outcome (Next Step) → List ℕ → Type 0
 WayAfter (refused n) way = Unit
 WayAfter (answered ended) way = Unit
 WayAfter (answered (next x)) way =
-    Slots (x .table .words) way (length (x .chain .places)) × (placesOf (x .table .words) way (length (x .chain .places)) ≡ x .chain .places)
+    Slots (x .table .words) way (length (x .chain .places)) × (wayPlaces (x .table .words) way (length (x .chain .places)) ≡ x .chain .places)

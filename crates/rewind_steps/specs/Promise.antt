@@ -16,7 +16,7 @@ use Rattle.entry_slots.specs.Index.{headsOf, nextsOf, Indexed}
 use Rattle.chain.specs.Settings.{levels}
 use Rattle.rewind_records.specs.Turning.{Next}
 use Rattle.rewind_steps.specs.Taking.{Step}
-use Rattle.rewind_steps.specs.Telling.{telling}
+use Rattle.rewind_steps.specs.StepText.{stepWithText}
 use Rattle.rewind_steps.specs.Making.{making, madeOf, tableAfter, textAfter, WayAfter}
 use Rattle.additions.specs.declared.entries.RecordEntry.{RecordEntry}
 use Rattle.rewind_steps.specs.declared.Entered.{Entered}
@@ -54,7 +54,7 @@ module _ (journal image forward heads nexts way text : Lent) (at : ℕ) where
   abbrev pub TellPromise : ℕ → Entered → Made → Type 0
   TellPromise used entered =
       let held = entered .held in
-      let o = telling (before journal) (before image) (table (before forward) used) (entered .info .parent) (entered .info .name) (length (before text) - at) in
+      let o = stepWithText (before journal) (before image) (table (before forward) used) (entered .info .parent) (entered .info .name) (length (before text) - at) in
       StepPromise o (table (putAt (before forward) (held .slot) (held .key) (held .info)) (held .used))
 
   -- a step with a record

@@ -7,7 +7,7 @@ use borrow.Author.Tests.{lt-ltb, le-ltb}
 use Rattle.walk.specs.Outcome.{refused, answered}
 use Rattle.walk.specs.Refusals.{aboveDomain, listFull, domain}
 use Rattle.usn_carver.specs.Settings.{Settings}
-use Rattle.usn_carver.specs.Carve.{events, carving, recordsIn, statsIn}
+use Rattle.usn_carver.specs.Carve.{events, carving, carvedPlaces, statsIn}
 use Rattle.usn_carver.specs.Promise.{Carves, Fills}
 use Rattle.usn_carver.specs.declared.Carving.the-variants.{Carved, Refused}
 use Rattle.usn_carver.specs.declared.CarvingStats.{CarvingStats}
@@ -21,16 +21,16 @@ module _ (st : Settings) (s l : List ℕ) where
   refuses-above-domain h = kept (simp (lt-ltb _ _ h))
 
   module _ (a : length s ≤ domain) where
-    pub refuses-full : length l / 2 < length (recordsIn st s) → Carves st s l (Refused listFull) l
+    pub refuses-full : length l / 2 < length (carvedPlaces st s) → Carves st s l (Refused listFull) l
     unfolding carving
     refuses-full h = kept (simp (le-ltb _ _ a, lt-ltb _ _ h))
 
-    answers : length (recordsIn st s) ≤ length l / 2 → {x : CarvingStats} → x ≡ statsIn st s → answered x ≡ carving st s (length l)
+    answers : length (carvedPlaces st s) ≤ length l / 2 → {x : CarvingStats} → x ≡ statsIn st s → answered x ≡ carving st s (length l)
     unfolding carving
     answers h e = ap answered e ∙ simp (le-ltb _ _ a, le-ltb _ _ h)
 
     -- x and l′ are what the loop that fills the list answers and leaves
-    pub carves : length (recordsIn st s) ≤ length l / 2 → {x : CarvingStats} {l′ : List ℕ} → Fills st s l x l′ → Carves st s l (Carved x) l′
+    pub carves : length (carvedPlaces st s) ≤ length l / 2 → {x : CarvingStats} {l′ : List ℕ} → Fills st s l x l′ → Carves st s l (Carved x) l′
     carves h f = let e = answers h (f .counters) in record { answer = e; places = rw (← e) (f .places) }
 
 -- runs with the same events come out the same

@@ -17,8 +17,8 @@ use Rattle.usn_record.specs.Record.{maxRecord, parsed, recordOf, listed}
 use Rattle.usn_record.proofs.ListedLaws.{WholeRecord, whole-parsed, whole-listed}
 use Rattle.usn_carver.specs.Settings.{Settings}
 use Rattle.usn_carver.specs.Events.{Event, rejected, carved, records}
-use Rattle.usn_carver.specs.Carve.{visit, events, recordsIn}
-use Rattle.usn_carver.proofs.VisitLaws.{Candidate, Shape, stops, passes, rejects, carves, visit-shape}
+use Rattle.usn_carver.specs.Carve.{carverVisit, events, carvedPlaces}
+use Rattle.usn_carver.proofs.VisitLaws.{Candidate, CandidateShape, stops, passes, rejects, carves, visit-shape}
 
 -- an event is about a candidate
 abbrev pub Met : Settings → List ℕ → Event → Type 0
@@ -26,7 +26,7 @@ Met st s (rejected why o v) = Candidate st s o v (leAt 4 s o)
 Met st s (carved o v n) = Candidate st s o v n
 
 module _ (st : Settings) (s : List ℕ) where
-  shape-met : {o : ℕ} {v : Visit Event} → Shape st s o v → Finds (Met st s) v
+  shape-met : {o : ℕ} {v : Visit Event} → CandidateShape st s o v → Finds (Met st s) v
   shape-met (stops h) = tt
   shape-met (passes h) = tt
   shape-met (rejects why v n h k) = (rw (k .size) at k, tt)
@@ -34,7 +34,7 @@ module _ (st : Settings) (s : List ℕ) where
 
   pub events-met : All (Met st s) (events st s)
   unfolding from
-  events-met = walk-all (Met st s) (visit st s) (λ o. shape-met (visit-shape st s o)) (length s - 0) 0
+  events-met = walk-all (Met st s) (carverVisit st s) (λ o. shape-met (visit-shape st s o)) (length s - 0) 0
 
 -- a place of the list: its length is the length field, it ends inside, and the record there is the one that its parser makes of it
 pub record IsRecord (s : List ℕ) (p : Place) : Type 0 where
@@ -68,5 +68,5 @@ module _ (st : Settings) (s : List ℕ) (most : st .largest ≤ maxRecord) where
       let k = h .0 in
       (record { size = k .size; inside = k .inside; accepted = rw (← k .version) (candidate-listed k) }, records-of es (h .1))
 
-  pub records-listed : All (IsRecord s) (recordsIn st s)
+  pub records-listed : All (IsRecord s) (carvedPlaces st s)
   records-listed = records-of (events st s) (events-met st s)

@@ -16,7 +16,7 @@ use Rattle.usn_record.proofs.ListedLaws.{whole-name}
 use Rattle.usn_record.proofs.SampleLaws.{sample-named}
 use Rattle.usn_carver.specs.Settings.{standard}
 use Rattle.usn_carver.specs.Events.{structure, rejected, carved}
-use Rattle.usn_carver.specs.Carve.{judged, visitAs, visit, events, carving}
+use Rattle.usn_carver.specs.Carve.{judged, carverVisitAs, carverVisit, events, carving}
 use Rattle.usn_carver.specs.Masking.{nameOf, NoOverlap, carvedNames}
 use Rattle.usn_carver.proofs.TwoRunLaws.{SameCarving, call-two-runs}
 
@@ -25,14 +25,14 @@ abbrev ax : List ℕ
 ax = sampleRecord 0x61 0x78
 
 pub E-carved : events standard recordE ≡ carved 0 2 64 ∷ []
-unfolding from walk visit visitAs judged leAt le
+unfolding from walk carverVisit carverVisitAs judged leAt le
 E-carved = refl
 
 pub E-name : nameAt recordE 0 ≡ record { offset = 60; length = 4 } ∷ []
 E-name = sample-named 0x61 0x62
 
 E-outcome : carving standard recordE 2 ≡ answered (record { «bytes_scanned» = 64; «candidates_examined» = 1; «records_carved» = 1; «rejected_timestamp» = 0; «rejected_structure» = 0 })
-unfolding carving from walk visit visitAs judged leAt le
+unfolding carving from walk carverVisit carverVisitAs judged leAt le
 E-outcome = refl
 
 lone-carved : (o v n : ℕ) → NoOverlap (carved o v n ∷ [])
@@ -62,11 +62,11 @@ abbrev ab2L : List ℕ
 ab2L = leBytes 2 0x61 ++ leBytes 2 0x62 ++ leBytes 2 2 ++ leBytes 2 76
 
 pub overlap-first : events standard (overlap abcd) ≡ rejected structure 0 3 ∷ carved 8 2 68 ∷ []
-unfolding from walk visit visitAs judged leAt le
+unfolding from walk carverVisit carverVisitAs judged leAt le
 overlap-first = refl
 
 pub overlap-second : events standard (overlap ab2L) ≡ carved 0 3 80 ∷ []
-unfolding from walk visit visitAs judged leAt le
+unfolding from walk carverVisit carverVisitAs judged leAt le
 overlap-second = refl
 
 overlap-name : nameAt (overlap abcd) 8 ≡ record { offset = 68; length = 8 } ∷ []

@@ -12,14 +12,14 @@ use Rattle.walk.proofs.WalkLaws.{Left}
 use Rattle.usn_record.specs.Zeros.{PastZeros}
 use Rattle.usn_carver.specs.Settings.{Settings}
 use Rattle.usn_carver.specs.Events.{structure, time, Event, rejected, carved, records, structures, times, statsOf}
-use Rattle.usn_carver.specs.Carve.{visit, eventsFrom, events, recordsIn, statsIn}
+use Rattle.usn_carver.specs.Carve.{carverVisit, eventsFrom, events, carvedPlaces, statsIn}
 use Rattle.usn_carver.specs.Promise.{Fills}
 use Rattle.usn_carver.specs.declared.CarvingStats.{CarvingStats}
 use Rattle.usn_carver.proofs.SkipLaws.{skipped}
 
 -- So many records were met before o.
 pub record Counting (st : Settings) (s : List ℕ) (n o : ℕ) : Type 0 where
-  pub carved : n + length (records (eventsFrom st s o)) ≡ length (recordsIn st s)
+  pub carved : n + length (records (eventsFrom st s o)) ≡ length (carvedPlaces st s)
   pub near : n ≤ o
 
 -- equal events have equally many records
@@ -46,7 +46,7 @@ stats-are x size es a b c d e =
 
 -- The list was l₀ and is l, and before o the run counted what x says.
 pub record Filling (st : Settings) (s l₀ l : List ℕ) (x : CarvingStats) (o : ℕ) : Type 0 where
-  pub written : Writing placeWords 2 l₀ l (2 * x .«records_carved») (records (eventsFrom st s o)) (recordsIn st s)
+  pub written : Writing placeWords 2 l₀ l (2 * x .«records_carved») (records (eventsFrom st s o)) (carvedPlaces st s)
   pub bytes : x .«bytes_scanned» ≡ length s
   pub candidates : x .«candidates_examined» + length (eventsFrom st s o) ≡ length (events st s)
   pub structure : x .«rejected_structure» + structures (eventsFrom st s o) ≡ structures (events st s)
@@ -59,7 +59,7 @@ pub filling-start : (st : Settings) (s l : List ℕ) {x : CarvingStats} → x �
 filling-start st s l e =
     rw e
     (record {
-      written = writing-start placeWords 2 l (recordsIn st s);
+      written = writing-start placeWords 2 l (carvedPlaces st s);
       bytes = refl;
       candidates = omega arith;
       structure = omega arith;
@@ -85,11 +85,11 @@ module _ {st : Settings} {s l₀ l : List ℕ} {x : CarvingStats} {o : ℕ} (f :
   pub filling-skip : (p : ℕ) → PastZeros s o p → Filling st s l₀ l x p
   filling-skip p k = moved p (k .forward) (sym (skipped st s k))
 
-  pub filling-pass : (p : ℕ) → Left (visit st s) (length s) o (go [] p) → Filling st s l₀ l x p
+  pub filling-pass : (p : ℕ) → Left (carverVisit st s) (length s) o (go [] p) → Filling st s l₀ l x p
   filling-pass p w = moved p (omega arith) (w .0)
 
   -- a rejected candidate
-  pub filling-structure : (v p : ℕ) → Left (visit st s) (length s) o (go (rejected structure o v ∷ []) p)
+  pub filling-structure : (v p : ℕ) → Left (carverVisit st s) (length s) o (go (rejected structure o v ∷ []) p)
       → Filling st s l₀ l (record {
         «bytes_scanned» = x .«bytes_scanned»;
         «candidates_examined» = x .«candidates_examined» + 1;
@@ -108,7 +108,7 @@ module _ {st : Settings} {s l₀ l : List ℕ} {x : CarvingStats} {o : ℕ} (f :
         parts = omega (arith, f .parts);
       }
 
-  pub filling-time : (v p : ℕ) → Left (visit st s) (length s) o (go (rejected time o v ∷ []) p)
+  pub filling-time : (v p : ℕ) → Left (carverVisit st s) (length s) o (go (rejected time o v ∷ []) p)
       → Filling st s l₀ l (record {
         «bytes_scanned» = x .«bytes_scanned»;
         «candidates_examined» = x .«candidates_examined» + 1;
@@ -128,8 +128,8 @@ module _ {st : Settings} {s l₀ l : List ℕ} {x : CarvingStats} {o : ℕ} (f :
       }
 
   -- a carved record has room, and is written
-  module _ (v n p : ℕ) (w : Left (visit st s) (length s) o (go (carved o v n ∷ []) p)) where
-    pub filling-room : length (recordsIn st s) ≤ length l₀ / 2 → 2 * x .«records_carved» + 2 ≤ length l
+  module _ (v n p : ℕ) (w : Left (carverVisit st s) (length s) o (go (carved o v n ∷ []) p)) where
+    pub filling-room : length (carvedPlaces st s) ≤ length l₀ / 2 → 2 * x .«records_carved» + 2 ≤ length l
     filling-room h = writing-room placeWords 2 (λ _. refl) (f .written) (ap records (w .0)) h
 
     pub filling-carved : {l′ : List ℕ} → l′ ≡ sets l (2 * x .«records_carved») (o ∷ n ∷ [])
@@ -163,5 +163,5 @@ module _ {st : Settings} {s l₀ l : List ℕ} {x : CarvingStats} {o : ℕ} (f :
         (omega (arith, f .time, ap times w))
         (omega (arith, f .structure, ap structures w))
 
-    pub filling-end : length (recordsIn st s) ≤ length l₀ / 2 → Fills st s l₀ x l
+    pub filling-end : length (carvedPlaces st s) ≤ length l₀ / 2 → Fills st s l₀ x l
     filling-end h = record { counters = counters; places = writing-end placeWords 2 (λ _. refl) (f .written) (ap records w) h }

@@ -10,11 +10,11 @@ use Rattle.usn_record.specs.Bytes.{leAt}
 use Rattle.usn_record.specs.Zeros.{PastZeros}
 use Rattle.usn_record.proofs.ZeroLaws.{zeros-passed}
 use Rattle.usn_carver.specs.Settings.{Settings}
-use Rattle.usn_carver.specs.Carve.{visit, eventsFrom}
+use Rattle.usn_carver.specs.Carve.{carverVisit, eventsFrom}
 use Rattle.usn_carver.proofs.VisitLaws.{passed-zero}
 use Rattle.usn_carver.proofs.RunLaws.{visit-forward}
 
 pub skipped : (st : Settings) (s : List ℕ) {o p : ℕ} → PastZeros s o p → eventsFrom st s p ≡ eventsFrom st s o
 skipped st s =
     zeros-passed s (eventsFrom st s)
-    (λ q h e. sym (left (visit st s) (length s) (visit-forward st s) q (go [] (q + 8)) (passed-zero st s q (omega arith) (sym e) refl) .0))
+    (λ q h e. sym (left (carverVisit st s) (length s) (visit-forward st s) q (go [] (q + 8)) (passed-zero st s q (omega arith) (sym e) refl) .0))

@@ -23,7 +23,7 @@ use Rattle.usn_carver.specs.declared.Carving.the-variants.{Carved, Refus
 use Rattle.usn_carver.specs.declared.CarvingStats.{CarvingStats}
 
 -- the numbers that decide on a candidate, beside its version
-pub record Header : Type 0 where
+pub record CandidateHeader : Type 0 where
   pub size : ℕ
   pub nameOffset : ℕ
   pub nameLength : ℕ
@@ -43,15 +43,15 @@ abbrev pub badTime : ℤ → ℤ → ℤ → Bool
 badTime lower upper z = ltZ z lower || ltZ upper z
 
 -- what becomes of a candidate at o: only a carved record is passed whole, rounded up to 8 bytes
-unfoldable pub judged : Settings → Layout → ℕ → Header → Visit Event
+unfoldable pub judged : Settings → Layout → ℕ → CandidateHeader → Visit Event
 judged st l o h =
     cond (badName (l .fixed) (h .size) (h .nameOffset) (h .nameLength)) (go (rejected structure o (l .major) ∷ []) (o + 8))
     (cond (badTime (st .lower) (st .upper) (h .filetime)) (go (rejected time o (l .major) ∷ []) (o + 8))
     (go (carved o (l .major) (h .size) ∷ []) (o + round8 (h .size))))
 
 -- the numbers of a record of layout l at o of s
-abbrev pub headerAt : Layout → List ℕ → ℕ → Header
-headerAt l s o =
+abbrev pub candidateHeaderAt : Layout → List ℕ → ℕ → CandidateHeader
+candidateHeaderAt l s o =
     record {
       size = leAt 4 s o;
       nameOffset = leAt 2 s (o + l .nameOffset);
@@ -60,29 +60,29 @@ headerAt l s o =
     }
 
 -- a visit of o, where the version has layout l
-unfoldable pub visitAs : Settings → Layout → List ℕ → ℕ → Visit Event
-visitAs st l s o = cond (isCandidate st l (length s) o (leAt 4 s o)) (judged st l o (headerAt l s o)) (go [] (o + 8))
+unfoldable pub carverVisitAs : Settings → Layout → List ℕ → ℕ → Visit Event
+carverVisitAs st l s o = cond (isCandidate st l (length s) o (leAt 4 s o)) (judged st l o (candidateHeaderAt l s o)) (go [] (o + 8))
 
 -- a visit of o, while 8 bytes fit: four zero bytes move on 8, and so does a version other than 2 and 3
-unfoldable pub visit : Settings → List ℕ → ℕ → Visit Event
-visit st s o =
+unfoldable pub carverVisit : Settings → List ℕ → ℕ → Visit Event
+carverVisit st s o =
     let version = leAt 2 s (o + 4) in
     cond (ltb (length s) (o + 8)) stop
     (cond (eqb (leAt 4 s o) 0) (go [] (o + 8))
-    (cond (eqb version 2) (visitAs st v2 s o)
-    (cond (eqb version 3) (visitAs st v3 s o)
+    (cond (eqb version 2) (carverVisitAs st v2 s o)
+    (cond (eqb version 3) (carverVisitAs st v3 s o)
     (go [] (o + 8)))))
 
 -- the events from o on, and those of the whole extract
 abbrev pub eventsFrom : Settings → List ℕ → ℕ → List Event
-eventsFrom st s = from (visit st s) (length s)
+eventsFrom st s = from (carverVisit st s) (length s)
 
 abbrev pub events : Settings → List ℕ → List Event
 events st s = eventsFrom st s 0
 
 -- its records, in order, and its counters
-abbrev pub recordsIn : Settings → List ℕ → List Place
-recordsIn st s = records (events st s)
+abbrev pub carvedPlaces : Settings → List ℕ → List Place
+carvedPlaces st s = records (events st s)
 
 abbrev pub statsIn : Settings → List ℕ → CarvingStats
 statsIn st s = statsOf (length s) (events st s)
@@ -91,12 +91,12 @@ statsIn st s = statsOf (length s) (events st s)
 unfoldable pub carving : Settings → List ℕ → ℕ → Outcome CarvingStats
 carving st s words =
     cond (ltb domain (length s)) (refused aboveDomain)
-    (cond (ltb (words / 2) (length (recordsIn st s))) (refused listFull)
+    (cond (ltb (words / 2) (length (carvedPlaces st s))) (refused listFull)
     (answered (statsIn st s)))
 
 -- what the lent list l holds after that call
 abbrev pub carvingList : Settings → List ℕ → List ℕ → List ℕ
-carvingList st s l = listAfter (λ _. flatten placeWords (recordsIn st s)) (carving st s (length l)) l
+carvingList st s l = listAfter (λ _. flatten placeWords (carvedPlaces st s)) (carving st s (length l)) l
 
 -- what the call's answer says
 abbrev pub outcome : Carving → Outcome CarvingStats

@@ -7,7 +7,7 @@ use Rattle.walk.specs.declared.Place.{Place}
 use Rattle.usn_record.specs.Names.{nameAt}
 use Rattle.usn_carver.specs.Settings.{Settings}
 use Rattle.usn_carver.specs.Events.{Reason, Event, rejected, carved}
-use Rattle.usn_carver.specs.Carve.{recordsIn, carving}
+use Rattle.usn_carver.specs.Carve.{carvedPlaces, carving}
 
 -- the name of a carved record
 abbrev pub nameOf : List ℕ → Event → List Place
@@ -26,7 +26,7 @@ IfAnswered (answered a) P = P
 
 -- the records that a call with a list of so many words lists, and their names
 abbrev pub carvedRecords : Settings → List ℕ → ℕ → List Place
-carvedRecords st s words = listedBy (λ _. recordsIn st s) (carving st s words)
+carvedRecords st s words = listedBy (λ _. carvedPlaces st s) (carving st s words)
 
 abbrev pub carvedNames : Settings → List ℕ → ℕ → List Place
 carvedNames st s words = placesOf (λ p. nameAt s (p .offset)) (carvedRecords st s words)

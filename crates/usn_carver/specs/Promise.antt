@@ -6,7 +6,7 @@ use lib.ListN.{length}
 use Rattle.walk.specs.Lent.{Lent, before, after}
 use Rattle.walk.specs.Lists.{flatten, placeWords, overwrite}
 use Rattle.usn_carver.specs.Settings.{Settings}
-use Rattle.usn_carver.specs.Carve.{outcome, carving, carvingList, recordsIn, statsIn}
+use Rattle.usn_carver.specs.Carve.{outcome, carving, carvingList, carvedPlaces, statsIn}
 use Rattle.usn_carver.specs.declared.Carving.{Carving}
 use Rattle.usn_carver.specs.declared.CarvingStats.{CarvingStats}
 
@@ -21,7 +21,7 @@ CarvePromise st extract list r = Carves st (before extract) (before list) r (aft
 -- filling a list that has room: the counters of the run, and the list
 pub record Fills (st : Settings) (extract list : List ℕ) (r : CarvingStats) (list′ : List ℕ) : Type 0 where
   pub counters : r ≡ statsIn st extract
-  pub places : list′ ≡ overwrite list (flatten placeWords (recordsIn st extract))
+  pub places : list′ ≡ overwrite list (flatten placeWords (carvedPlaces st extract))
 
 abbrev pub FillPromise : Settings → Lent → Lent → CarvingStats → Type 0
 FillPromise st extract list r = Fills st (before extract) (before list) r (after list)

@@ -9,13 +9,13 @@ use Rattle.usn_carver.specs.declared.step.CarveStep.{CarveStep}
 use Rattle.usn_carver.specs.declared.step.CarveStep.the-variants.{Stop, Zero, Move, BadStructure, BadTime, Carved}
 
 -- a step at o as a visit
-abbrev pub visitOf : ℕ → CarveStep → Visit Event
-visitOf o Stop = stop
-visitOf o (Zero p) = go [] p
-visitOf o (Move p) = go [] p
-visitOf o (BadStructure v p) = go (rejected structure o v ∷ []) p
-visitOf o (BadTime v p) = go (rejected time o v ∷ []) p
-visitOf o (Carved v n p) = go (carved o v n ∷ []) p
+abbrev pub carverVisitOf : ℕ → CarveStep → Visit Event
+carverVisitOf o Stop = stop
+carverVisitOf o (Zero p) = go [] p
+carverVisitOf o (Move p) = go [] p
+carverVisitOf o (BadStructure v p) = go (rejected structure o v ∷ []) p
+carverVisitOf o (BadTime v p) = go (rejected time o v ∷ []) p
+carverVisitOf o (Carved v n p) = go (carved o v n ∷ []) p
 
 -- a version's layout by the offset of its USN, from which on lies all that carving reads
 abbrev pub layoutFrom : ℕ → ℕ → Layout

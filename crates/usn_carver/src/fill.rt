@@ -6,7 +6,7 @@ ghost use lib.ListN.{length};
 ghost use lib.Dec.{leb};
 ghost use Rattle.usn_carver.specs.Settings.{settingsOf};
 ghost use Rattle.usn_carver.specs.Events.{statsOf};
-ghost use Rattle.usn_carver.specs.Carve.{recordsIn};
+ghost use Rattle.usn_carver.specs.Carve.{carvedPlaces};
 ghost use Rattle.usn_carver.specs.Promise.{FillPromise};
 use crate::CarvingStats;
 use crate::step::CarveStep;
@@ -16,7 +16,7 @@ use usn_record::zeros::skip_zeros;
 // Whether the records to be carved are no more than room. None is counted where room is enough for any extract so long: a
 // carved record takes 64 bytes, of which the last may lack 4.
 pub(crate) fn has_room(extract: &[u8], room: usize, lower: u64, upper: u64, largest: usize) -> bool
-    ensures { λ r. ⌜ r ≡ leb (length (recordsIn (settingsOf lower upper largest) (now (extract .entry)))) room ⌝ }
+    ensures { λ r. ⌜ r ≡ leb (length (carvedPlaces (settingsOf lower upper largest) (now (extract .entry)))) room ⌝ }
 {
     if (extract.len() + 4) / 64 <= room {
         return true;
@@ -26,7 +26,7 @@ pub(crate) fn has_room(extract: &[u8], room: usize, lower: u64, upper: u64, larg
 
 // How many records are carved.
 fn count_records(extract: &[u8], lower: u64, upper: u64, largest: usize) -> usize
-    ensures { λ r. ⌜ r ≡ length (recordsIn (settingsOf lower upper largest) (now (extract .entry))) ⌝ }
+    ensures { λ r. ⌜ r ≡ length (carvedPlaces (settingsOf lower upper largest) (now (extract .entry))) ⌝ }
 {
     let mut n: usize = 0;
     let mut o: usize = 0;
@@ -55,7 +55,7 @@ pub(crate) fn fill_list(
     upper: u64,
     largest: usize,
 ) -> CarvingStats
-    requires { ⌜ length (recordsIn (settingsOf lower upper largest) (now extract)) ≤ length (now list) / 2 ⌝ }
+    requires { ⌜ length (carvedPlaces (settingsOf lower upper largest) (now extract)) ≤ length (now list) / 2 ⌝ }
     ensures { λ r. ⌜ FillPromise (settingsOf lower upper largest) extract list r ⌝ }
 {
     let mut stats = nothing_met(extract.len());

@@ -4,8 +4,8 @@ ghost use Prim.Native.Nat.{_+_, _≤_, _<_};
 ghost use lib.ListN.{length};
 ghost use Rattle.usn_record.specs.Bytes.{leAt};
 ghost use Rattle.usn_carver.specs.Settings.{settingsOf};
-ghost use Rattle.usn_carver.specs.Carve.{badName, visitAs, visit};
-ghost use Rattle.usn_carver.specs.Step.{layoutFrom, visitOf};
+ghost use Rattle.usn_carver.specs.Carve.{badName, carverVisitAs, carverVisit};
+ghost use Rattle.usn_carver.specs.Step.{layoutFrom, carverVisitOf};
 use crate::time::bad_time;
 use usn_record::bytes::le_u16;
 use usn_record::bytes::le_u32;
@@ -30,7 +30,7 @@ pub(crate) fn carve_step(
     upper: u64,
     largest: usize,
 ) -> CarveStep
-    ensures { λ r. ⌜ visitOf o r ≡ visit (settingsOf lower upper largest) (now (extract .entry)) o ⌝ }
+    ensures { λ r. ⌜ carverVisitOf o r ≡ carverVisit (settingsOf lower upper largest) (now (extract .entry)) o ⌝ }
 {
     let end = extract.len();
     if end < 8 {
@@ -65,7 +65,7 @@ fn examine(
     largest: usize,
 ) -> CarveStep
     requires { ⌜ (o + 8 ≤ length (now extract)) × (size ≡ leAt 4 (now extract) o) × (tail < 4096) ⌝ }
-    ensures { λ r. ⌜ visitOf o r ≡ visitAs (settingsOf lower upper largest) (layoutFrom tail version) (now (extract .entry)) o ⌝ }
+    ensures { λ r. ⌜ carverVisitOf o r ≡ carverVisitAs (settingsOf lower upper largest) (layoutFrom tail version) (now (extract .entry)) o ⌝ }
 {
     let fixed = tail + 36;
     if size < fixed {

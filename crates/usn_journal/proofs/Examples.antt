@@ -14,28 +14,28 @@ use Rattle.usn_record.specs.Record.{listed}
 use Rattle.usn_record.specs.Names.{nameAt}
 use Rattle.usn_record.specs.Sample.{header, createdFixed, sampleRecord, recordE}
 use Rattle.usn_record.proofs.SampleLaws.{sample-named}
-use Rattle.usn_journal.specs.Scan.{kindByVersion, kindOf, visit, scanned}
+use Rattle.usn_journal.specs.Scan.{kindByVersion, kindOf, scanVisit, scanned}
 use Rattle.usn_journal.specs.Outcome.{scan, scanAnswer, scanList}
 use Rattle.usn_journal.proofs.TwoRunLaws.{scan-two-runs}
 
 -- zero words and a version 4 record between two records, and a header whose length passes the end
 many : scanned (replicate 16 0 ++ recordE ++ header 56 4 ++ replicate 48 0 ++ recordE ++ header 96 2)
     ≡ record { offset = 16; length = 64 } ∷ record { offset = 136; length = 64 } ∷ []
-unfolding scanned from walk visit kindOf kindByVersion leAt le
+unfolding scanned from walk scanVisit kindOf kindByVersion leAt le
 many = refl
 
 -- a list with room for one record of two, and one that is just full
 refuses : (scanAnswer (recordE ++ recordE) 3 ≡ refused 5) × (scanList (recordE ++ recordE) (7 ∷ 7 ∷ 7 ∷ []) ≡ 7 ∷ 7 ∷ 7 ∷ [])
-unfolding scan scanned from walk visit kindOf kindByVersion leAt le
+unfolding scan scanned from walk scanVisit kindOf kindByVersion leAt le
 refuses = (refl, refl)
 
 fills : (scanAnswer (recordE ++ recordE) 4 ≡ answered 2) × (scanList (recordE ++ recordE) (7 ∷ 7 ∷ 7 ∷ 7 ∷ 7 ∷ []) ≡ 0 ∷ 64 ∷ 64 ∷ 64 ∷ 7 ∷ [])
-unfolding scan scanned from walk visit kindOf kindByVersion leAt le
+unfolding scan scanned from walk scanVisit kindOf kindByVersion leAt le
 fills = (refl, refl)
 
 -- the record with another first unit in its name is masked, is another list of bytes, and has the same outcome
 scanned-E : scanned recordE ≡ record { offset = 0; length = 64 } ∷ []
-unfolding scanned from walk visit kindOf kindByVersion leAt le
+unfolding scanned from walk scanVisit kindOf kindByVersion leAt le
 scanned-E = refl
 
 names-E : placesOf (λ p. nameAt recordE (p .offset)) (scanned recordE) ≡ record { offset = 60; length = 4 } ∷ []

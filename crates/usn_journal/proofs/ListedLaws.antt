@@ -14,7 +14,7 @@ use Rattle.usn_record.specs.Bytes.{leAt}
 use Rattle.usn_record.specs.Layout.{layoutOf}
 use Rattle.usn_record.specs.Record.{recordOf, listed}
 use Rattle.usn_record.proofs.ListedLaws.{WholeRecord, whole-listed}
-use Rattle.usn_journal.specs.Scan.{Kind, end, word, usnRecord, rangeRecord, visitAs, kindAt, visit, events, scanned}
+use Rattle.usn_journal.specs.Scan.{Kind, end, word, usnRecord, rangeRecord, scanVisitAs, kindAt, scanVisit, events, scanned}
 use Rattle.usn_journal.proofs.ScanLaws.{Shaped, shape-at, OfRecord, all-records}
 
 -- a whole record of version 2 or 3 stands at p
@@ -26,7 +26,7 @@ all-map P Q f [] h = tt
 all-map P Q f (x ∷ xs) h = (f x (h .0), all-map P Q f xs (h .1))
 
 module _ (s : List ℕ) where
-  kind-recorded : (o : ℕ) (k : Kind) → Shaped s o k → Finds (OfRecord (Recorded s)) (visitAs o (leAt 4 s o) k)
+  kind-recorded : (o : ℕ) (k : Kind) → Shaped s o k → Finds (OfRecord (Recorded s)) (scanVisitAs o (leAt 4 s o) k)
   kind-recorded o end h = tt
   kind-recorded o word h = tt
   kind-recorded o usnRecord h = (
@@ -41,13 +41,13 @@ module _ (s : List ℕ) where
   )
   kind-recorded o rangeRecord h = (tt, tt)
 
-  visit-recorded : (o : ℕ) → Finds (OfRecord (Recorded s)) (visit s o)
-  unfolding visit
+  visit-recorded : (o : ℕ) → Finds (OfRecord (Recorded s)) (scanVisit s o)
+  unfolding scanVisit
   visit-recorded o = kind-recorded o (kindAt s o) (shape-at s o)
 
   pub scan-recorded : All (Recorded s) (scanned s)
   unfolding scanned from
-  scan-recorded = all-records (Recorded s) (events s) (walk-all (OfRecord (Recorded s)) (visit s) visit-recorded (length s - 0) 0)
+  scan-recorded = all-records (Recorded s) (events s) (walk-all (OfRecord (Recorded s)) (scanVisit s) visit-recorded (length s - 0) 0)
 
 -- the record at p, taken by its offset alone, is the one that its part parses to
 abbrev pub Parses : List ℕ → Place → Type 0

@@ -9,7 +9,7 @@ use lib.ListN.{length, length-append}
 use lib.Dec.{ltb, eqb}
 use borrow.Author.Tests.{ltb-false, eqb-true}
 use Rattle.walk.specs.Lists.{All}
-use Rattle.walk.specs.Walk.{Visit, stop, go, after, walk, from}
+use Rattle.walk.specs.Walk.{Visit, stop, go, goingOn, walk, from}
 use Rattle.walk.specs.declared.Place.{Place}
 use Rattle.walk.proofs.ChoiceLaws.{cond-cases, or-left, or-right}
 use Rattle.walk.proofs.WalkLaws.{Forward, Left, left}
@@ -17,12 +17,12 @@ use Rattle.usn_record.specs.Bytes.{leAt}
 use Rattle.usn_record.specs.Layout.{v2, v3}
 use Rattle.usn_record.specs.Record.{maxRecord}
 use Rattle.usn_record.specs.Names.{fixedOf}
-use Rattle.usn_journal.specs.Scan.{Kind, end, word, usnRecord, rangeRecord, minRecord, kindByVersion, kindOf, Event, recorded, ranged, visitAs, versionAt, kindAt, visit, recordPlaces, scanned}
-use Rattle.usn_journal.specs.Step.{visitOf}
+use Rattle.usn_journal.specs.Scan.{Kind, end, word, usnRecord, rangeRecord, minRecord, kindByVersion, kindOf, Event, recorded, ranged, scanVisitAs, versionAt, kindAt, scanVisit, recordPlaces, scanned}
+use Rattle.usn_journal.specs.Step.{scanVisitOf}
 use Rattle.usn_journal.specs.declared.step.ScanStep.{ScanStep}
 
 -- a record of n bytes, which lies inside the bytes that are left
-pub record Lies (left n : ℕ) : Type 0 where
+pub record RecordInside (left n : ℕ) : Type 0 where
   pub header : 8 ≤ left
   pub inside : n ≤ left
   pub least : minRecord ≤ n
@@ -38,8 +38,8 @@ pub record Versioned (n v : ℕ) : Type 0 where
 abbrev pub KindShape : ℕ → ℕ → ℕ → Kind → Type 0
 KindShape left n v end = Unit {0}
 KindShape left n v word = 8 ≤ left
-KindShape left n v usnRecord = Lies left n × Versioned n v
-KindShape left n v rangeRecord = Lies left n × (v ≡ 4)
+KindShape left n v usnRecord = RecordInside left n × Versioned n v
+KindShape left n v rangeRecord = RecordInside left n × (v ≡ 4)
 
 pub kind-shape : (left n v : ℕ) → KindShape left n v (kindOf left n v)
 unfolding kindOf kindByVersion
@@ -48,7 +48,7 @@ kind-shape left n v =
     cond-cases P (ltb left 8) (λ _. tt) λ a.
     cond-cases P (ltb n minRecord || ltb maxRecord n) (λ _. ltb-false _ _ a) λ b.
     cond-cases P (ltb left n) (λ _. tt) λ d.
-    let lies : Lies left n = record {
+    let lies : RecordInside left n = record {
       header = ltb-false _ _ a;
       inside = ltb-false _ _ d;
       least = ltb-false _ _ (or-left (ltb n minRecord) (ltb maxRecord n) b);
@@ -88,42 +88,42 @@ RecordCosts top o stop = Unit {0}
 RecordCosts top o (go es p) = (o + 64 * length (recordPlaces es) ≤ p) × (p ≤ top)
 
 module _ (s : List ℕ) where
-  kind-forward : (o : ℕ) (k : Kind) → Shaped s o k → Forward (length s) o (visitAs o (leAt 4 s o) k)
+  kind-forward : (o : ℕ) (k : Kind) → Shaped s o k → Forward (length s) o (scanVisitAs o (leAt 4 s o) k)
   kind-forward o end h = tt
   kind-forward o word h = omega arith
   kind-forward o usnRecord h = omega arith
   kind-forward o rangeRecord h = omega arith
 
-  kind-costs : (o : ℕ) (k : Kind) → Shaped s o k → RecordCosts (length s + 7) o (visitAs o (leAt 4 s o) k)
+  kind-costs : (o : ℕ) (k : Kind) → Shaped s o k → RecordCosts (length s + 7) o (scanVisitAs o (leAt 4 s o) k)
   kind-costs o end h = tt
   kind-costs o word h = omega arith
   kind-costs o usnRecord h = omega arith
   kind-costs o rangeRecord h = omega arith
 
   -- a visit goes forward, and only inside the extract
-  pub visit-forward : (o : ℕ) → Forward (length s) o (visit s o)
-  unfolding visit
+  pub visit-forward : (o : ℕ) → Forward (length s) o (scanVisit s o)
+  unfolding scanVisit
   visit-forward o = kind-forward o (kindAt s o) (shape-at s o)
 
-  pub visit-costs : (o : ℕ) → RecordCosts (length s + 7) o (visit s o)
-  unfolding visit
+  pub visit-costs : (o : ℕ) → RecordCosts (length s + 7) o (scanVisit s o)
+  unfolding scanVisit
   visit-costs o = kind-costs o (kindAt s o) (shape-at s o)
 
   -- so the records take 64 bytes each of a walk that ends within 7 bytes of the end
   after-bound : (top o : ℕ) (f : ℕ → List Event) (v : Visit Event) → RecordCosts top o v → o ≤ top
-      → ((p : ℕ) → p ≤ top → p + 64 * length (recordPlaces (f p)) ≤ top) → o + 64 * length (recordPlaces (after v f)) ≤ top
+      → ((p : ℕ) → p ≤ top → p + 64 * length (recordPlaces (f p)) ≤ top) → o + 64 * length (recordPlaces (goingOn v f)) ≤ top
   after-bound top o f stop w ho h = omega arith
   after-bound top o f (go es p) w ho h = simp (records-append, length-append) (omega (arith, h p (w .1)))
 
-  walk-records : (k o : ℕ) → o ≤ length s + 7 → o + 64 * length (recordPlaces (walk (visit s) k o)) ≤ length s + 7
+  walk-records : (k o : ℕ) → o ≤ length s + 7 → o + 64 * length (recordPlaces (walk (scanVisit s) k o)) ≤ length s + 7
   unfolding walk
   walk-records zero o h = omega arith
-  walk-records (suc k) o h = after-bound (length s + 7) o (walk (visit s) k) (visit s o) (visit-costs o) h (walk-records k)
+  walk-records (suc k) o h = after-bound (length s + 7) o (walk (scanVisit s) k) (scanVisit s o) (visit-costs o) h (walk-records k)
 
   pub scan-bound : 64 * length (scanned s) ≤ length s + 7
   unfolding scanned from
   scan-bound = omega (arith, walk-records (length s - 0) 0 (omega arith))
 
   -- what is left of the scan at o, by what the step there is
-  pub rest : (o : ℕ) {r t : ScanStep} → r ≡ t → visitOf r ≡ visit s o → Left (visit s) (length s) o (visitOf t)
-  rest o {t = t} e f = left (visit s) (length s) visit-forward o (visitOf t) (ap visitOf (sym e) ∙ f)
+  pub rest : (o : ℕ) {r t : ScanStep} → r ≡ t → scanVisitOf r ≡ scanVisit s o → Left (scanVisit s) (length s) o (scanVisitOf t)
+  rest o {t = t} e f = left (scanVisit s) (length s) visit-forward o (scanVisitOf t) (ap scanVisitOf (sym e) ∙ f)

@@ -16,39 +16,39 @@ use Rattle.usn_record.specs.Bytes.{leAt}
 use Rattle.usn_record.specs.Layout.{Layout, v2, v3}
 use Rattle.usn_record.specs.Record.{maxRecord, parsed}
 use Rattle.usn_record.specs.declared.UsnRecord.{UsnRecord}
-use Rattle.usn_record.proofs.RecordLaws.{Inside, v2-inside, v3-inside, part-accepted}
-use Rattle.usn_journal.specs.Scan.{minRecord, usnRecord, kindByVersion, kindOf, Event, ranged, visitAs, versionAt, visit}
+use Rattle.usn_record.proofs.RecordLaws.{FieldsInside, v2-inside, v3-inside, part-accepted}
+use Rattle.usn_journal.specs.Scan.{minRecord, usnRecord, kindByVersion, kindOf, Event, ranged, scanVisitAs, versionAt, scanVisit}
 use Rattle.usn_journal.specs.Step.{Lying, parsedVisit}
 
 -- the visit of n bytes that lie inside, by the version field
 abbrev pub byVersion : List ℕ → ℕ → ℕ → Visit Event
-byVersion s o n = visitAs o n (kindByVersion n (versionAt s o))
+byVersion s o n = scanVisitAs o n (kindByVersion n (versionAt s o))
 
 -- by the bytes left and the length field n
 module _ (s : List ℕ) (o : ℕ) where
-  pub visit-no-header : length s < o + 8 → stop ≡ visit s o
-  unfolding visit kindOf
+  pub visit-no-header : length s < o + 8 → stop ≡ scanVisit s o
+  unfolding scanVisit kindOf
   visit-no-header h = simp (lt-ltb (length s - o) 8 (omega arith))
 
   module _ (a : o + 8 ≤ length s) {n : ℕ} (e : n ≡ leAt 4 s o) where
     header : ltb (length s - o) 8 ≡ false
     header = le-ltb (length s - o) 8 (omega arith)
 
-    pub visit-short : n < minRecord → go [] (o + 8) ≡ visit s o
-    unfolding visit kindOf
+    pub visit-short : n < minRecord → go [] (o + 8) ≡ scanVisit s o
+    unfolding scanVisit kindOf
     visit-short h = simp (header, sym e, lt-ltb n minRecord h)
 
-    pub visit-long : maxRecord < n → go [] (o + 8) ≡ visit s o
-    unfolding visit kindOf
+    pub visit-long : maxRecord < n → go [] (o + 8) ≡ scanVisit s o
+    unfolding scanVisit kindOf
     visit-long h = simp (header, sym e, le-ltb n minRecord (omega arith), lt-ltb maxRecord n h)
 
     module _ (b : minRecord ≤ n) (d : n ≤ maxRecord) where
-      pub visit-past-end : length s < o + n → stop ≡ visit s o
-      unfolding visit kindOf
+      pub visit-past-end : length s < o + n → stop ≡ scanVisit s o
+      unfolding scanVisit kindOf
       visit-past-end h = simp (header, sym e, le-ltb n minRecord b, le-ltb maxRecord n d, lt-ltb (length s - o) n (omega arith))
 
-      pub visit-inside : o + n ≤ length s → {x : Visit Event} → x ≡ byVersion s o n → x ≡ visit s o
-      unfolding visit kindOf
+      pub visit-inside : o + n ≤ length s → {x : Visit Event} → x ≡ byVersion s o n → x ≡ scanVisit s o
+      unfolding scanVisit kindOf
       visit-inside h w = w ∙ simp (header, sym e, le-ltb n minRecord b, le-ltb maxRecord n d, le-ltb (length s - o) n (omega arith))
 
 -- by the version field v
@@ -71,7 +71,7 @@ module _ (s : List ℕ) (o n : ℕ) {v : ℕ} (f : v ≡ versionAt s o) where
 
   -- y is what the parser said of the part that was lent to it
   module _ (i : Lying s o n) {x : Visit Event} {y : Outcome UsnRecord} (w : x ≡ parsedVisit o n y) where
-    taken : (l : Layout) → Inside l → l .fixed ≤ n → y ≡ parsed l (take (o + n - o) (drop o s)) → x ≡ visitAs o n usnRecord
+    taken : (l : Layout) → FieldsInside l → l .fixed ≤ n → y ≡ parsed l (take (o + n - o) (drop o s)) → x ≡ scanVisitAs o n usnRecord
     taken l j k q =
         w ∙ ap (parsedVisit o n) (q ∙ ap (parsed l) (part-lent s o n) ∙ part-accepted l j s o (i .size) (i .inside) k (i .most))
 

@@ -10,14 +10,14 @@ use Rattle.walk.proofs.WalkLaws.{left}
 use Rattle.usn_record.specs.Bytes.{leAt}
 use Rattle.usn_record.specs.Zeros.{PastZeros}
 use Rattle.usn_record.proofs.ZeroLaws.{zeros-passed}
-use Rattle.usn_journal.specs.Scan.{Event, visit, eventsFrom}
+use Rattle.usn_journal.specs.Scan.{Event, scanVisit, eventsFrom}
 use Rattle.usn_journal.proofs.StepLaws.{visit-short}
 use Rattle.usn_journal.proofs.ScanLaws.{visit-forward}
 
-pub zero-word : (s : List ℕ) (o : ℕ) → o + 8 ≤ length s → leAt 4 s o ≡ 0 → go [] (o + 8) ≡ visit s o
+pub zero-word : (s : List ℕ) (o : ℕ) → o + 8 ≤ length s → leAt 4 s o ≡ 0 → go [] (o + 8) ≡ scanVisit s o
 zero-word s o h e = visit-short s o h refl (omega arith)
 
 pub skipped : (s : List ℕ) {o p : ℕ} → PastZeros s o p → eventsFrom s p ≡ eventsFrom s o
 skipped s =
     zeros-passed s (eventsFrom s)
-    (λ q h e. sym (left (visit s) (length s) (visit-forward s) q (go [] (q + 8)) (zero-word s q h e) .0))
+    (λ q h e. sym (left (scanVisit s) (length s) (visit-forward s) q (go [] (q + 8)) (zero-word s q h e) .0))

@@ -46,11 +46,11 @@ pub data Event : Type 0 where
   ranged : Place → Event
 
 -- the visit of what stands at o with the length field n: a word moves on 8, a record by its length rounded up to 8
-abbrev pub visitAs : ℕ → ℕ → Kind → Visit Event
-visitAs o n end = stop
-visitAs o n word = go [] (o + 8)
-visitAs o n usnRecord = go (recorded (record { offset = o; length = n }) ∷ []) (o + round8 n)
-visitAs o n rangeRecord = go (ranged (record { offset = o; length = n }) ∷ []) (o + round8 n)
+abbrev pub scanVisitAs : ℕ → ℕ → Kind → Visit Event
+scanVisitAs o n end = stop
+scanVisitAs o n word = go [] (o + 8)
+scanVisitAs o n usnRecord = go (recorded (record { offset = o; length = n }) ∷ []) (o + round8 n)
+scanVisitAs o n rangeRecord = go (ranged (record { offset = o; length = n }) ∷ []) (o + round8 n)
 
 -- what stands at o of an extract s: its length field is the 4 bytes there, its version field the 2 bytes after them
 abbrev pub versionAt : List ℕ → ℕ → ℕ
@@ -60,12 +60,12 @@ abbrev pub kindAt : List ℕ → ℕ → Kind
 kindAt s o = kindOf (length s - o) (leAt 4 s o) (versionAt s o)
 
 -- the visit there
-unfoldable pub visit : List ℕ → ℕ → Visit Event
-visit s o = visitAs o (leAt 4 s o) (kindAt s o)
+unfoldable pub scanVisit : List ℕ → ℕ → Visit Event
+scanVisit s o = scanVisitAs o (leAt 4 s o) (kindAt s o)
 
 -- all that the scan of s meets from o on, and from the start
 abbrev pub eventsFrom : List ℕ → ℕ → List Event
-eventsFrom s = from (visit s) (length s)
+eventsFrom s = from (scanVisit s) (length s)
 
 abbrev pub events : List ℕ → List Event
 events s = eventsFrom s 0

@@ -10,7 +10,7 @@ use Rattle.walk.specs.Walk.{Visit, stop, go}
 use Rattle.usn_record.specs.Bytes.{leAt}
 use Rattle.usn_record.specs.Record.{maxRecord}
 use Rattle.usn_record.specs.declared.UsnRecord.{UsnRecord}
-use Rattle.usn_journal.specs.Scan.{minRecord, usnRecord, Event, recorded, ranged, visitAs}
+use Rattle.usn_journal.specs.Scan.{minRecord, usnRecord, Event, recorded, ranged, scanVisitAs}
 use Rattle.usn_journal.specs.declared.step.ScanStep.{ScanStep}
 use Rattle.usn_journal.specs.declared.step.ScanStep.the-variants.{Stop, Move, Record, Range}
 
@@ -23,13 +23,13 @@ pub record Lying (s : List ℕ) (o n : ℕ) : Type 0 where
   pub inside : o + n ≤ length s
 
 -- a step of the code as a visit
-abbrev pub visitOf : ScanStep → Visit Event
-visitOf Stop = stop
-visitOf (Move p) = go [] p
-visitOf (Record o n p) = go (recorded (record { offset = o; length = n }) ∷ []) p
-visitOf (Range o n p) = go (ranged (record { offset = o; length = n }) ∷ []) p
+abbrev pub scanVisitOf : ScanStep → Visit Event
+scanVisitOf Stop = stop
+scanVisitOf (Move p) = go [] p
+scanVisitOf (Record o n p) = go (recorded (record { offset = o; length = n }) ∷ []) p
+scanVisitOf (Range o n p) = go (ranged (record { offset = o; length = n }) ∷ []) p
 
 -- the visit of a record of n bytes at o, by what its parser says: a refused one is passed over
 abbrev pub parsedVisit : ℕ → ℕ → Outcome UsnRecord → Visit Event
-parsedVisit o n (answered r) = visitAs o n usnRecord
+parsedVisit o n (answered r) = scanVisitAs o n usnRecord
 parsedVisit o n (refused m) = go [] (o + round8 n)

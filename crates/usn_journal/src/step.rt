@@ -5,8 +5,8 @@ ghost use lib.ListN.{length};
 ghost use Rattle.walk.specs.Places.{round8};
 ghost use Rattle.walk.specs.Refusals.{domain};
 ghost use Rattle.usn_record.specs.Record.{outcome, maxRecord};
-ghost use Rattle.usn_journal.specs.Scan.{kindByVersion, visitAs, versionAt, visit};
-ghost use Rattle.usn_journal.specs.Step.{Lying, visitOf, parsedVisit};
+ghost use Rattle.usn_journal.specs.Scan.{kindByVersion, scanVisitAs, versionAt, scanVisit};
+ghost use Rattle.usn_journal.specs.Step.{Lying, scanVisitOf, parsedVisit};
 use usn_record::Parsed;
 use usn_record::bytes::le_u16;
 use usn_record::bytes::le_u32;
@@ -43,7 +43,7 @@ pub enum ScanStep {
 // on a word of 8 bytes, and so do zero words.
 pub(crate) fn scan_step(extract: &[u8], o: usize) -> ScanStep
     requires { ⌜ length (now extract) ≤ domain ⌝ }
-    ensures { λ r. ⌜ visitOf r ≡ visit (now (extract .entry)) o ⌝ }
+    ensures { λ r. ⌜ scanVisitOf r ≡ scanVisit (now (extract .entry)) o ⌝ }
 {
     let size = extract.len();
     if size < 8 {
@@ -69,7 +69,7 @@ pub(crate) fn scan_step(extract: &[u8], o: usize) -> ScanStep
 // offset and is as long as its length field, a version 4 record is a range, and anything else moves on 8.
 fn version_step(extract: &[u8], o: usize, n: usize) -> ScanStep
     requires { ⌜ Lying (now extract) o n ⌝ }
-    ensures { λ r. ⌜ visitOf r ≡ visitAs o n (kindByVersion n (versionAt (now (extract .entry)) o)) ⌝ }
+    ensures { λ r. ⌜ scanVisitOf r ≡ scanVisitAs o n (kindByVersion n (versionAt (now (extract .entry)) o)) ⌝ }
 {
     let e = o + n;
     let version = le_u16(extract, o + 4);
@@ -100,7 +100,7 @@ fn version_step(extract: &[u8], o: usize, n: usize) -> ScanStep
 // The visit of a record of so many bytes, by what its parser says: a refused one is passed over.
 fn record_step(p: Parsed, offset: usize, length: usize) -> ScanStep
     requires { ⌜ (offset ≤ domain) × (length ≤ maxRecord) ⌝ }
-    ensures { λ r. ⌜ visitOf r ≡ parsedVisit offset length (outcome p) ⌝ }
+    ensures { λ r. ⌜ scanVisitOf r ≡ parsedVisit offset length (outcome p) ⌝ }
 {
     let next = past_record(offset, length);
     match p {

@@ -5,7 +5,7 @@ use lib.ListN.{length}
 use Rattle.walk.specs.Lists.{flatten, placeWords}
 use Rattle.walk.specs.Outcome.{Outcome}
 use Rattle.usn_carver.specs.Settings.{standard}
-use Rattle.usn_carver.specs.Carve.{carving, recordsIn}
+use Rattle.usn_carver.specs.Carve.{carving, carvedPlaces}
 use Rattle.usn_carver.specs.declared.CarvingStats.{CarvingStats}
 use Rattle.usn_answers.specs.Answers.{withRoom}
 
@@ -15,4 +15,4 @@ carveCall s list out = withRoom 5 (length out) (carving standard s (length list)
 
 -- the words of the places of the records that are carved from s
 abbrev pub carvedWords : List ℕ → CarvingStats → List ℕ
-carvedWords s _ = flatten placeWords (recordsIn standard s)
+carvedWords s _ = flatten placeWords (carvedPlaces standard s)

@@ -16,9 +16,9 @@ use Rattle.walk.proofs.ListLaws.{sets-front}
 use Rattle.path_text.specs.Decoding.{withText}
 use Rattle.rewind_records.specs.Turning.{Next, ended, next}
 use Rattle.rewind_steps.specs.Taking.{Step}
-use Rattle.rewind_steps.specs.Telling.{recordText, nextText}
+use Rattle.rewind_steps.specs.StepText.{recordText, nextText}
 use Rattle.rewind.specs.Stepping.{stepped}
-use Rattle.rewind.specs.Telling.{told}
+use Rattle.rewind.specs.Written.{steppedWithText}
 use Rattle.rewind.specs.declared.Rewind.{Rewind}
 use Rattle.rewind_run.specs.Running.{Run, runFrom, onward as runOn, running, ran}
 use Rattle.rewind_run.specs.Promise.{RunsIndexed}
@@ -43,9 +43,9 @@ module _ (journal records words : List ℕ) (r : Rewind) where
   abbrev one : Outcome (Next Step) → Run
   one o = runOn (λ q. q) journal [] (runFrom words r) o
 
-  ran-one : (room : ℕ) → ran journal [] records words r room 1 ≡ one (told journal [] records words r room)
+  ran-one : (room : ℕ) → ran journal [] records words r room 1 ≡ one (steppedWithText journal [] records words r room)
   unfolding running
-  ran-one room = rw (sub-zero room) (by (told journal [] records words r room))
+  ran-one room = rw (sub-zero room) (by (steppedWithText journal [] records words r room))
     where
       by : (o : Outcome (Next Step)) → runOn (running journal [] records room 0) journal [] (runFrom words r) o ≡ one o
       by (refused n) = refl
@@ -70,14 +70,14 @@ module _ (journal records words : List ℕ) (r : Rewind) where
   module _ (text : List ℕ) (h : 65536 ≤ length text) {heads nexts : List ℕ} {a : RewindRun} {words′ heads′ nexts′ ends′ part′ : List ℕ}
       (p : RunsIndexed journal [] records words r heads nexts (0 ∷ []) (take 65536 text) a words′ heads′ nexts′ ends′ part′) where
     abbrev out : Run
-    out = one (told journal [] records words r 65536)
+    out = one (steppedWithText journal [] records words r 65536)
 
     run-is : ran journal [] records words r (length (take 65536 text)) 1 ≡ out
     run-is = ap (λ (k : ℕ). ran journal [] records words r k 1) (length-take-le 65536 text h) ∙ ran-one 65536
 
     module _ (z : a .steps ≡ 0) where
-      none : (out .words ≡ words) × ((out .text ≡ []) × (shownPath journal (told journal [] records words r 65536) ≡ questionMark ∷ []))
-      none = none-made (told journal [] records words r 65536) (sym (ap (λ (q : RewindRun). q .steps) (p .answer) ∙ ap (λ (q : Run). length (q .ends)) run-is) ∙ z)
+      none : (out .words ≡ words) × ((out .text ≡ []) × (shownPath journal (steppedWithText journal [] records words r 65536) ≡ questionMark ∷ []))
+      none = none-made (steppedWithText journal [] records words r 65536) (sym (ap (λ (q : RewindRun). q .steps) (p .answer) ∙ ap (λ (q : Run). length (q .ends)) run-is) ∙ z)
 
       none-part : part′ ≡ take 65536 text
       none-part = p .text-is ∙ ap (λ (q : Run). overwrite (take 65536 text) (q .text)) run-is ∙ ap (overwrite (take 65536 text)) (none .1 .0)
@@ -108,11 +108,11 @@ module _ (journal records words : List ℕ) (r : Rewind) where
       steps-are : a .steps ≡ length (out .ends)
       steps-are = ap (λ (q : RewindRun). q .steps) (p .answer) ∙ ap (λ (q : Run). length (q .ends)) run-is
 
-      some : (C : Type 0) → ((x : Step) → told journal [] records words r 65536 ≡ answered (next x) → C) → C
-      some = one-made (told journal [] records words r 65536) (λ f. z (steps-are ∙ f))
+      some : (C : Type 0) → ((x : Step) → steppedWithText journal [] records words r 65536 ≡ answered (next x) → C) → C
+      some = one-made (steppedWithText journal [] records words r 65536) (λ f. z (steps-are ∙ f))
 
       -- what the run leaves, by the step that it made
-      module _ (x : Step) (f : told journal [] records words r 65536 ≡ answered (next x)) where
+      module _ (x : Step) (f : steppedWithText journal [] records words r 65536 ≡ answered (next x)) where
         abbrev told-text : List ℕ
         told-text = recordText journal [] x
 
@@ -136,7 +136,7 @@ module _ (journal records words : List ℕ) (r : Rewind) where
             → Puts text (pathOf journal records s) 65536 (onward journal records s) (record { end = getD ends′ 0 0; rewind = a .rewind }) words′ v
         unfolding pathOf
         whole {v} e =
-            let shown : shownPath journal (told journal [] records words r 65536) ≡ map shownByte told-text = rw f in
+            let shown : shownPath journal (steppedWithText journal [] records words r 65536) ≡ map shownByte told-text = rw f in
             let sized : length (map shownByte told-text) ≡ length told-text = length-shown told-text in
             record {
               end-is = end-is ∙ sym sized ∙ ap length (sym shown);

@@ -14,10 +14,10 @@ use Rattle.entry_slots.specs.Table.{table}
 use Rattle.additions.specs.Walking.{recordsIn, offsetIn}
 use Rattle.rewind_records.specs.Turning.{Next, ended, next}
 use Rattle.rewind_steps.specs.Taking.{Step}
-use Rattle.rewind_steps.specs.Telling.{recordText}
+use Rattle.rewind_steps.specs.StepText.{recordText}
 use Rattle.rewind.specs.Starting.{Tables, started, begun}
 use Rattle.rewind.specs.Stepping.{stepped, stateOf, rewindAfter, wordsAfter}
-use Rattle.rewind.specs.Telling.{told}
+use Rattle.rewind.specs.Written.{steppedWithText}
 use Rattle.rewind.specs.declared.Rewind.{Rewind}
 use Rattle.usn_fields.specs.Line.{questionMark, shownByte, numbers}
 
@@ -84,7 +84,7 @@ module _ (journal records : List ℕ) where
 
   -- the path of the record that is next
   unfoldable pub pathOf : Standing → List ℕ
-  pathOf s = shownPath journal (told journal [] records (s .words) (s .rewind) mostPath)
+  pathOf s = shownPath journal (steppedWithText journal [] records (s .words) (s .rewind) mostPath)
 
   -- the line of record i, which is next
   unfoldable pub line : ℕ → Standing → List ℕ

@@ -19,7 +19,7 @@ use Rattle.usn_record.specs.declared.UsnRecord.{UsnRecord}
 use Rattle.usn_record.proofs.ByteLaws.{read-part}
 use Rattle.usn_record.proofs.ListedLaws.{listed-moved}
 use Rattle.window_numbers.specs.Numbers.{windowSize}
-use Rattle.usn_reader.specs.Window.{numbersIn, refusalOf, wantedOf, refilled, skipped, finished, Ready}
+use Rattle.usn_reader.specs.Window.{numbersIn, windowRefusal, wantedOf, refilled, skipped, finished, Ready}
 use Rattle.usn_reader.specs.Rule.{Reads, bufferReads, journalReads, reading, asking, orEnd, pastEnd, given, byLength, turnOf, onward, turns, searched}
 use Rattle.usn_reader.specs.Calls.{nextOf}
 use Rattle.usn_reader.specs.declared.UsnJournalReader.{UsnJournalReader}
@@ -28,7 +28,7 @@ use Rattle.usn_reader.specs.declared.turn.Turn.{Turn}
 use Rattle.usn_reader.specs.declared.turn.Turn.the-variants.{Done, Again}
 use Rattle.window_numbers.proofs.NumberLaws.{sound-of}
 use Rattle.usn_reader.proofs.WindowLaws.{Sound, ready-of, wants-rest}
-use Rattle.usn_reader.proofs.SearchLaws.{Moved, Shape, turn-shape, ready-moved}
+use Rattle.usn_reader.proofs.SearchLaws.{Moved, TurnShape, turn-shape, ready-moved}
 
 -- the buffer b holds what a window over the journal s says that it holds
 pub record Filled (s b : List ℕ) (w : UsnJournalReader) : Type 0 where
@@ -112,7 +112,7 @@ module _ (s b : List ℕ) where
       given-filled w n (r .recordAt w) f
 
   -- the answers of all turns, over the buffer and over the journal, and the window after them
-  onward-filled : (t : Turn) (g h : UsnJournalReader → Reading) (w : UsnJournalReader) → Shape w t → FilledTurn t
+  onward-filled : (t : Turn) (g h : UsnJournalReader → Reading) (w : UsnJournalReader) → TurnShape w t → FilledTurn t
       → ((v : UsnJournalReader) → Moved w v → Filled s b v → (g v ≡ h v) × Filled s b (h v .reader))
       → (onward (λ x. x) g t ≡ onward (λ x. x) h t) × Filled s b (onward (λ x. x) h t .reader)
   onward-filled (Done x) g h w sh f ih = (refl, f)
@@ -137,7 +137,7 @@ module _ (s b : List ℕ) where
   pub next-same : (w : UsnJournalReader) → Filled s b w → Alike (nextOf (bufferReads b) windowSize w) (nextOf (journalReads s) windowSize w)
   unfolding nextOf searched
   next-same w f =
-      cond-two Alike (eqb (refusalOf w windowSize) 0)
+      cond-two Alike (eqb (windowRefusal w windowSize) 0)
       (λ a. let sd : Sound w windowSize = sound-of (numbersIn w) windowSize (eqb-true _ _ a) in
       cond-two Alike (w .ended) (λ _. (refl, f)) λ e.
       cond-two Alike (eqb (wantedOf w) 0)

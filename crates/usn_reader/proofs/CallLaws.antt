@@ -8,7 +8,7 @@ use lib.ListN.{length}
 use lib.Seq.{sets}
 use borrow.Author.Tests.{lt-ltb, le-ltb, eq-eqb, ne-eqb}
 use Rattle.walk.specs.Refusals.{tooManyBytes}
-use Rattle.usn_reader.specs.Window.{numbersIn, refusalOf, wantedOf, finished, fedBy}
+use Rattle.usn_reader.specs.Window.{numbersIn, windowRefusal, wantedOf, finished, fedBy}
 use Rattle.usn_reader.specs.Rule.{Reads, reading, asking, searched}
 use Rattle.usn_reader.specs.Calls.{nextOf, giveRefusal, giveOf, bufferAfter}
 use Rattle.usn_reader.specs.Promise.{Gives}
@@ -18,7 +18,7 @@ use Rattle.usn_reader.specs.declared.Reading.{Reading}
 use Rattle.window_numbers.proofs.NumberLaws.{sound}
 use Rattle.usn_reader.proofs.WindowLaws.{wanted-le}
 
-module _ (w : UsnJournalReader) (n : ℕ) {k : ℕ} (e : k ≡ refusalOf w n) where
+module _ (w : UsnJournalReader) (n : ℕ) {k : ℕ} (e : k ≡ windowRefusal w n) where
   module _ (r : Reads) where
     pub next-refused : (k ≡ 0 → ⊥) → reading (Refused k) w ≡ nextOf r n w
     unfolding nextOf
@@ -43,7 +43,7 @@ pub sets-none : (b : List ℕ) (i : ℕ) (x : List ℕ) → length x ≡ 0 → b
 sets-none b i [] e = refl
 sets-none b i (x ∷ xs) e = absurd (omega arith)
 
-module _ (b bytes : List ℕ) (w : UsnJournalReader) {k : ℕ} (e : k ≡ refusalOf w (length b)) where
+module _ (b bytes : List ℕ) (w : UsnJournalReader) {k : ℕ} (e : k ≡ windowRefusal w (length b)) where
   pub give-refused : (k ≡ 0 → ⊥) → Gives w b bytes (reading (Refused k) w) b
   unfolding giveOf giveRefusal bufferAfter
   give-refused h = record { answer = simp (sym e, ne-eqb _ _ h); filled = simp (sym e, ne-eqb _ _ h) }

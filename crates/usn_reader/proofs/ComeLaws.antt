@@ -17,16 +17,16 @@ use Rattle.usn_record.specs.declared.UsnRecord.{UsnRecord}
 use Rattle.window_numbers.specs.Numbers.{windowSize, windowEnd}
 use Rattle.usn_reader.specs.Window.{refilled, skipped, finished}
 use Rattle.usn_reader.specs.Rule.{Reads, journalReads, namedFrom, asking, orEnd, pastEnd, given, byLength, turnOf, onward, searched}
-use Rattle.usn_reader.specs.Journal.{Step, over, onto, found, refillTo, stepAt, afterStep, toCome}
-use Rattle.usn_reader.specs.Run.{placeOf, coming, Told, Tells}
+use Rattle.usn_reader.specs.Journal.{WindowStep, over, onto, found, refillTo, stepAt, afterStep, toCome}
+use Rattle.usn_reader.specs.Run.{placeOf, coming, RecordGiven, GivesRecord}
 use Rattle.usn_reader.specs.declared.UsnJournalReader.{UsnJournalReader}
 use Rattle.usn_reader.specs.declared.Answer.{Answer}
 use Rattle.usn_reader.specs.declared.Answer.the-variants.{Record, Wants, End, Refused}
 use Rattle.usn_reader.specs.declared.Reading.{Reading}
 use Rattle.usn_reader.specs.declared.turn.Turn.{Turn}
 use Rattle.usn_reader.specs.declared.turn.Turn.the-variants.{Done, Again}
-use Rattle.usn_reader.proofs.JournalLaws.{Steady, Holds, to-come, step-holds}
-use Rattle.usn_reader.proofs.SearchLaws.{Moved, Shape, turn-shape, closer, search-step}
+use Rattle.usn_reader.proofs.JournalLaws.{Steady, GoesSteady, to-come, step-holds}
+use Rattle.usn_reader.proofs.SearchLaws.{Moved, TurnShape, turn-shape, closer, search-step}
 
 -- a window over the journal s
 pub record Over (s : List ℕ) (w : UsnJournalReader) : Type 0 where
@@ -37,7 +37,7 @@ pub record Over (s : List ℕ) (w : UsnJournalReader) : Type 0 where
 pub record Comes (s : List ℕ) (l : List Place) (x : Reading) : Type 0 where
   pub whole : l ≡ placeOf (x .answer) ++ coming s (x .reader)
   pub over : Over s (x .reader)
-  pub tells : Tells s (x .answer) (x .reader)
+  pub tells : GivesRecord s (x .answer) (x .reader)
   pub ends : x .answer ≡ End → l ≡ []
   pub quiet : x .reader .ended ≡ true → coming s (x .reader) ≡ []
 
@@ -46,8 +46,8 @@ ComesTurn s l (Done x) = Comes s l x
 ComesTurn s l (Again v) = (l ≡ coming s v) × Over s v × (v .ended ≡ false)
 
 module _ (s : List ℕ) (w : UsnJournalReader) (ov : Over s w) (live : w .ended ≡ false) where
-  abbrev Both : Step → Turn → Type 0
-  Both x t = coming s w ≡ afterStep x (toCome s) → Holds s x → ComesTurn s (coming s w) t
+  abbrev Both : WindowStep → Turn → Type 0
+  Both x t = coming s w ≡ afterStep x (toCome s) → GoesSteady s x → ComesTurn s (coming s w) t
 
   not-end : {f k : ℕ} → Wants f k ≡ End → ⊥
   not-end e = let z : _≡_ {A = ℕ} 0 1 = cc in omega arith
@@ -109,7 +109,7 @@ module _ (s : List ℕ) (w : UsnJournalReader) (ov : Over s w) (live : w .ended 
       both-turn (to-come s (w .position) (w .end) (ov .steady)) (step-holds s (w .position) (w .end) (ov .steady))
 
 -- the answer of a search
-onward-comes : (s : List ℕ) (w : UsnJournalReader) (l : List Place) (t : Turn) (f : UsnJournalReader → Reading) → Shape w t → ComesTurn s l t
+onward-comes : (s : List ℕ) (w : UsnJournalReader) (l : List Place) (t : Turn) (f : UsnJournalReader → Reading) → TurnShape w t → ComesTurn s l t
     → ((v : UsnJournalReader) → Moved w v → Over s v → v .ended ≡ false → Comes s (coming s v) (f v)) → Comes s l (onward (λ x. x) f t)
 onward-comes s w l (Done x) f sh c ih = c
 onward-comes s w l (Again v) f sh c ih = let d = ih v sh (c .1) (c .2) in

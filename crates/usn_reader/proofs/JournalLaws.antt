@@ -14,7 +14,7 @@ use Rattle.walk.proofs.ChoiceLaws.{cond-cases, or-left, or-right}
 use Rattle.usn_record.specs.Bytes.{leAt}
 use Rattle.usn_record.specs.Record.{listed}
 use Rattle.window_numbers.specs.Numbers.{windowSize, windowEnd}
-use Rattle.usn_reader.specs.Journal.{Step, over, onto, found, refillTo, stepAt, afterStep, steps, toCome}
+use Rattle.usn_reader.specs.Journal.{WindowStep, over, onto, found, refillTo, stepAt, afterStep, steps, toCome}
 
 -- a position and an end that a window over s may have
 pub record Steady (s : List ℕ) (p e : ℕ) : Type 0 where
@@ -46,7 +46,7 @@ left-start : (s : List ℕ) (p : ℕ) → left s p (windowEnd p (length s)) ≡ 
 unfolding left
 left-start s p = simp (eq-eqb (windowEnd p (length s)) (windowEnd p (length s)) refl) (omega arith)
 
-abbrev pub Falls : List ℕ → ℕ → ℕ → Step → Type 0
+abbrev pub Falls : List ℕ → ℕ → ℕ → WindowStep → Type 0
 Falls s p e over = Unit {0}
 Falls s p e (onto ps q f) = Steady s q f × (left s q f < left s p e)
 
@@ -72,7 +72,7 @@ module _ (s : List ℕ) (p e : ℕ) (st : Steady s p e) where
   unfolding stepAt
   step-falls =
       let n = leAt 4 s p in
-      let F : Step → Type 0 = Falls s p e in
+      let F : WindowStep → Type 0 = Falls s p e in
       cond-cases F (ltb e (p + 8)) (λ a. falls-refill 8 (omega arith) (ltb-true e (p + 8) a)) λ a.
       let r : p + 8 ≤ e = ltb-false e (p + 8) a in
       cond-cases F (ltb n 8 || ltb windowSize n) (λ _. falls-on (p + 8) r (omega arith) (omega arith) []) λ b.
@@ -83,7 +83,7 @@ module _ (s : List ℕ) (p e : ℕ) (st : Steady s p e) where
       let in′ : p + n ≤ e = ltb-false e (p + n) d in
       falls-on _ r (omega arith) (omega arith) (found p n (listed s p))
 
-after-agree : (s : List ℕ) (p e : ℕ) (x : Step) (f g : ℕ → ℕ → List Place) → Falls s p e x
+after-agree : (s : List ℕ) (p e : ℕ) (x : WindowStep) (f g : ℕ → ℕ → List Place) → Falls s p e x
     → ((q h : ℕ) → Steady s q h → left s q h < left s p e → f q h ≡ g q h) → afterStep x f ≡ afterStep x g
 after-agree s p e over f g w h = refl
 after-agree s p e (onto ps q d) f g w h = ap (λ (l : List Place). ps ++ l) (h q d (w .0) (w .1))
@@ -105,13 +105,13 @@ to-come s p e st =
     (λ q h t l. steps-enough s m (2 * (length s + 8 - q) + 2) q h t (omega (arith, left-most s p e)) (omega (arith, left-most s q h)))
 
 -- a step ends, or goes on with a steady window
-abbrev pub Holds : List ℕ → Step → Type 0
-Holds s over = Unit {0}
-Holds s (onto ps q f) = Steady s q f
+abbrev pub GoesSteady : List ℕ → WindowStep → Type 0
+GoesSteady s over = Unit {0}
+GoesSteady s (onto ps q f) = Steady s q f
 
-holds-of : (s : List ℕ) (p e : ℕ) (x : Step) → Falls s p e x → Holds s x
+holds-of : (s : List ℕ) (p e : ℕ) (x : WindowStep) → Falls s p e x → GoesSteady s x
 holds-of s p e over w = tt
 holds-of s p e (onto ps q f) w = w .0
 
-pub step-holds : (s : List ℕ) (p e : ℕ) → Steady s p e → Holds s (stepAt s p e)
+pub step-holds : (s : List ℕ) (p e : ℕ) → Steady s p e → GoesSteady s (stepAt s p e)
 step-holds s p e st = holds-of s p e (stepAt s p e) (step-falls s p e st)

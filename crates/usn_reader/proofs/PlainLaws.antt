@@ -9,14 +9,14 @@ use lib.ListN.{length}
 use lib.Dec.{ltb, eqb}
 use borrow.Author.Tests.{ltb-true, ltb-false, eqb-true, lt-ltb, le-ltb}
 use Rattle.walk.specs.Places.{round8}
-use Rattle.walk.specs.Walk.{Visit, stop, go, after, from}
+use Rattle.walk.specs.Walk.{Visit, stop, go, goingOn, from}
 use Rattle.walk.specs.declared.Place.{Place}
 use Rattle.walk.proofs.ChoiceLaws.{cond-cases, or-left, or-right}
 use Rattle.walk.proofs.WalkLaws.{Forward, from-step, Stays}
 use Rattle.usn_record.specs.Bytes.{leAt}
 use Rattle.usn_record.specs.Record.{listed}
 use Rattle.window_numbers.specs.Numbers.{windowSize, windowEnd}
-use Rattle.usn_reader.specs.Journal.{Step, over, onto, found, refillTo, stepAt, afterStep, toCome, windowList, plainVisit}
+use Rattle.usn_reader.specs.Journal.{WindowStep, over, onto, found, refillTo, stepAt, afterStep, toCome, windowList, plainVisit}
 use Rattle.usn_reader.proofs.JournalLaws.{Steady, left, Falls, step-falls, to-come}
 
 pub plain-forward : (s : List ℕ) (p : ℕ) → Forward (length s) p (plainVisit s p)
@@ -37,7 +37,7 @@ module _ (s : List ℕ) (G : ℕ → Type 0) (stays : (p : ℕ) → G p → Stay
   rest = from (plainVisit s) (length s)
 
   -- what the plain walk finds where the visit is v
-  plain-at : (p : ℕ) (v : Visit Place) → v ≡ plainVisit s p → after v rest ≡ rest p
+  plain-at : (p : ℕ) (v : Visit Place) → v ≡ plainVisit s p → goingOn v rest ≡ rest p
   plain-at p v e = rw e (sym (from-step (plainVisit s) (length s) (plain-forward s) p))
 
   keeps : (p : ℕ) (v : Visit Place) → v ≡ plainVisit s p → G p → Stays G v
@@ -45,7 +45,7 @@ module _ (s : List ℕ) (G : ℕ → Type 0) (stays : (p : ℕ) → G p → Stay
 
   -- one step of the window beside one visit of the plain walk
   module _ (p e : ℕ) (st : Steady s p e) (g : G p) (ih : (q f : ℕ) → left s q f < left s p e → Steady s q f → G q → toCome s q f ≡ rest q) where
-    abbrev Same : Step → Type 0
+    abbrev Same : WindowStep → Type 0
     Same x = Falls s p e x → afterStep x (toCome s) ≡ rest p
 
     -- a refill at the same position

@@ -21,7 +21,7 @@ use Rattle.usn_record.proofs.ByteLaws.{read-agree}
 use Rattle.usn_record.proofs.NameLaws.{fixed-low}
 use Rattle.usn_record.proofs.ListedLaws.{reachOf, listed-reads, listed-fixed}
 use Rattle.window_numbers.specs.Numbers.{windowSize}
-use Rattle.usn_reader.specs.Window.{refusalOf, wantedOf, refilled, skipped, finished}
+use Rattle.usn_reader.specs.Window.{windowRefusal, wantedOf, refilled, skipped, finished}
 use Rattle.usn_reader.specs.Rule.{Reads, journalReads, namedFrom, reading, asking, orEnd, pastEnd, given, byLength, turnOf, onward, searched}
 use Rattle.usn_reader.specs.Calls.{nextOf, giveRefusal, giveOf}
 use Rattle.usn_reader.specs.declared.UsnJournalReader.{UsnJournalReader}
@@ -30,7 +30,7 @@ use Rattle.usn_reader.specs.declared.Answer.the-variants.{Record, Wants,
 use Rattle.usn_reader.specs.declared.Reading.{Reading}
 use Rattle.usn_reader.specs.declared.turn.Turn.{Turn}
 use Rattle.usn_reader.specs.declared.turn.Turn.the-variants.{Done, Again}
-use Rattle.usn_reader.proofs.SearchLaws.{Moved, Shape, turn-shape, closer, search-step}
+use Rattle.usn_reader.proofs.SearchLaws.{Moved, TurnShape, turn-shape, closer, search-step}
 
 module _ (s : List ℕ) where
   -- an answer of a window that was at p: it went no way back, and a record lies between, with room for its fixed part
@@ -87,7 +87,7 @@ module _ (s : List ℕ) where
       (λ _. cond-cases (λ (v : UsnJournalReader). G (orEnd w v)) (ltb (w .total) (w .position + n)) (λ _. or-end-good w (skipped (refilled w)) (omega arith)) (λ _. or-end-good w (refilled w) (omega arith))) λ _.
       given-good w (listed s (w .position)) refl
 
-  onward-good : (p : ℕ) (t : Turn) (f : UsnJournalReader → Reading) (w : UsnJournalReader) → Shape w t → GoodTurn p t
+  onward-good : (p : ℕ) (t : Turn) (f : UsnJournalReader → Reading) (w : UsnJournalReader) → TurnShape w t → GoodTurn p t
       → ((v : UsnJournalReader) → Moved w v → Good (v .position) (f v .answer) (f v .reader .position)) → GoodTurn p (Done (onward (λ x. x) f t))
   onward-good p (Done x) f w sh g ih = g
   onward-good p (Again v) f w sh g ih = good-from (f v .answer) p (v .position) (f v .reader .position) g (ih v sh)
@@ -140,7 +140,7 @@ module _ (s t : List ℕ) where
   abbrev Search-reads : ℕ → Reading → Reading → Type 0
   Search-reads p x y = Agree s t p (reach s (x .answer) (x .reader .position)) → y ≡ x
 
-  onward-reads : (w : UsnJournalReader) (x : Turn) (f g : UsnJournalReader → Reading) → Shape w x
+  onward-reads : (w : UsnJournalReader) (x : Turn) (f g : UsnJournalReader → Reading) → TurnShape w x
       → ((v : UsnJournalReader) → Moved w v → Good s (v .position) (f v .answer) (f v .reader .position))
       → ((v : UsnJournalReader) → Moved w v → Search-reads (v .position) (f v) (g v))
       → Agree s t (w .position) (reach s (onward (λ x. x) f x .answer) (onward (λ x. x) f x .reader .position))
@@ -162,7 +162,7 @@ module _ (s t : List ℕ) where
   unfolding nextOf
   next-reads n w =
       let R : Reading → Reading → Type 0 = Search-reads (w .position) in
-      cond-two R (eqb (refusalOf w n) 0)
+      cond-two R (eqb (windowRefusal w n) 0)
       (λ _. cond-two R (w .ended) (λ _ _. refl) λ _.
       cond-two R (eqb (wantedOf w) 0) (λ _. search-reads-go (suc (w .end - w .position)) w (omega arith)) (λ _ _. refl))
       (λ _ _. refl)
@@ -171,7 +171,7 @@ pub next-good : (s : List ℕ) (n : ℕ) (w : UsnJournalReader) → Good s (w .p
 unfolding nextOf
 next-good s n w =
     let P : Reading → Type 0 = λ x. Good s (w .position) (x .answer) (x .reader .position) in
-    cond-cases P (eqb (refusalOf w n) 0)
+    cond-cases P (eqb (windowRefusal w n) 0)
     (λ _. cond-cases P (w .ended) (λ _. omega arith) λ _. cond-cases P (eqb (wantedOf w) 0) (λ _. search-good s w) (λ _. omega arith))
     (λ _. omega arith)
 

@@ -7,10 +7,10 @@ use lib.Dec.{eqb}
 use borrow.Author.Tests.{ne-eqb}
 use Rattle.walk.specs.Places.{part}
 use Rattle.window_numbers.specs.Numbers.{windowSize}
-use Rattle.usn_reader.specs.Window.{numbersIn, refusalOf, wantedOf}
+use Rattle.usn_reader.specs.Window.{numbersIn, windowRefusal, wantedOf}
 use Rattle.usn_reader.specs.Rule.{Reads, bufferReads, journalReads}
 use Rattle.usn_reader.specs.Calls.{nextOf, giveRefusal, giveOf}
-use Rattle.usn_reader.specs.Run.{Call, next, give, nextOther, giveOther, State, Shape, asks, gives, shapeOf, readingOf, bufferOf, stateAfter, readings, shapes}
+use Rattle.usn_reader.specs.Run.{Call, next, give, nextOther, giveOther, State, CallShape, asks, gives, shapeOf, readingOf, bufferOf, stateAfter, readings, shapes}
 use Rattle.usn_reader.specs.declared.UsnJournalReader.{UsnJournalReader}
 use Rattle.usn_reader.specs.declared.Reading.{Reading}
 use Rattle.window_numbers.proofs.NumberLaws.{sound-of}
@@ -40,7 +40,7 @@ AllGo [] st = Unit {0}
 AllGo (c ∷ cs) st = Goes c st × AllGo cs (stateAfter c st)
 
 -- a call with a buffer of another length is refused
-pub other : (w : UsnJournalReader) (n : ℕ) → (n ≡ windowSize → ⊥) → refusalOf w n ≡ 0 → ⊥
+pub other : (w : UsnJournalReader) (n : ℕ) → (n ≡ windowSize → ⊥) → windowRefusal w n ≡ 0 → ⊥
 other w n h e = h (sound-of (numbersIn w) n e .buffer)
 
 other-next : (r q : Reads) (n : ℕ) (w : UsnJournalReader) → (n ≡ windowSize → ⊥) → (nextOf r n w ≡ nextOf q n w) × (nextOf r n w .reader ≡ w)
@@ -52,7 +52,7 @@ unfolding giveOf giveRefusal
 other-give n k w h = simp (ne-eqb _ _ (other w n h))
 
 -- the answer of a call, over the journal
-unfoldable pub journalReading : List ℕ → Shape → UsnJournalReader → Reading
+unfoldable pub journalReading : List ℕ → CallShape → UsnJournalReader → Reading
 journalReading s (asks n) w = nextOf (journalReads s) n w
 journalReading s (gives n k) w = giveOf n k w
 
@@ -66,7 +66,7 @@ call-journal s (nextOther b) st f k = let r = other-next (bufferReads b) (journa
 call-journal s (giveOther b x) st f k = (refl, rw (other-give (length b) (length x) (st .window) k) f)
 
 -- the answers of a list of calls, over the journal
-abbrev pub journalReadings : List ℕ → List Shape → UsnJournalReader → List Reading
+abbrev pub journalReadings : List ℕ → List CallShape → UsnJournalReader → List Reading
 journalReadings s [] w = []
 journalReadings s (c ∷ cs) w = journalReading s c w ∷ journalReadings s cs (journalReading s c w .reader)
 

@@ -28,30 +28,30 @@ pub record Moved (w v : UsnJournalReader) : Type 0 where
   pub most : w .position + by ≤ w .end + 7
   pub eight : by % 8 ≡ 0
 
-abbrev pub Shape : UsnJournalReader → Turn → Type 0
-Shape w (Done x) = Unit {0}
-Shape w (Again v) = Moved w v
+abbrev pub TurnShape : UsnJournalReader → Turn → Type 0
+TurnShape w (Done x) = Unit {0}
+TurnShape w (Again v) = Moved w v
 
-or-end-shape : (w v : UsnJournalReader) → Shape w (orEnd w v)
-or-end-shape w v = cond-cases (Shape w) (eqb (w .end) (w .total)) (λ _. tt) (λ _. tt)
+or-end-shape : (w v : UsnJournalReader) → TurnShape w (orEnd w v)
+or-end-shape w v = cond-cases (TurnShape w) (eqb (w .end) (w .total)) (λ _. tt) (λ _. tt)
 
 module _ (w : UsnJournalReader) (a : w .position + 8 ≤ w .end) where
-  given-shape : (n : ℕ) (x : Outcome UsnRecord) → 8 ≤ n → w .position + n ≤ w .end → Shape w (given w n x)
+  given-shape : (n : ℕ) (x : Outcome UsnRecord) → 8 ≤ n → w .position + n ≤ w .end → TurnShape w (given w n x)
   given-shape n (answered r) b d = tt
   given-shape n (refused m) b d = record { by = round8 n; is = refl; room = a; least = omega arith; most = omega arith; eight = omega arith }
 
-  length-shape : (n : ℕ) (x : Outcome UsnRecord) → Shape w (byLength w n x)
+  length-shape : (n : ℕ) (x : Outcome UsnRecord) → TurnShape w (byLength w n x)
   unfolding byLength
   length-shape n x =
-      cond-cases (Shape w) (ltb n 8 || ltb windowSize n)
+      cond-cases (TurnShape w) (ltb n 8 || ltb windowSize n)
       (λ _. record { by = 8; is = refl; room = a; least = omega arith; most = omega arith; eight = refl }) λ b.
-      cond-cases (Shape w) (ltb (w .end) (w .position + n)) (λ _. or-end-shape w _) λ d.
+      cond-cases (TurnShape w) (ltb (w .end) (w .position + n)) (λ _. or-end-shape w _) λ d.
       given-shape n x (ltb-false n 8 (or-left (ltb n 8) (ltb windowSize n) b)) (ltb-false (w .end) (w .position + n) d)
 
-pub turn-shape : (r : Reads) (w : UsnJournalReader) → Shape w (turnOf r w)
+pub turn-shape : (r : Reads) (w : UsnJournalReader) → TurnShape w (turnOf r w)
 unfolding turnOf
 turn-shape r w =
-    cond-cases (Shape w) (ltb (w .end) (w .position + 8)) (λ _. or-end-shape w (refilled w)) λ a.
+    cond-cases (TurnShape w) (ltb (w .end) (w .position + 8)) (λ _. or-end-shape w (refilled w)) λ a.
     length-shape w (ltb-false (w .end) (w .position + 8) a) (r .lengthAt w) (r .recordAt w)
 
 -- the window that a turn moved on is ready as well
@@ -70,7 +70,7 @@ ready-moved r m =
       end8 = r .end8;
     })
 
-onward-agree : (w : UsnJournalReader) (t : Turn) (f g : UsnJournalReader → Reading) → Shape w t → ((v : UsnJournalReader) → Moved w v → f v ≡ g v)
+onward-agree : (w : UsnJournalReader) (t : Turn) (f g : UsnJournalReader → Reading) → TurnShape w t → ((v : UsnJournalReader) → Moved w v → f v ≡ g v)
     → onward (λ x. x) f t ≡ onward (λ x. x) g t
 onward-agree w (Done x) f g s h = refl
 onward-agree w (Again v) f g s h = h v s

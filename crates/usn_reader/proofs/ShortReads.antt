@@ -14,11 +14,11 @@ use Rattle.walk.specs.Refusals.{tooManyBytes}
 use Rattle.walk.specs.declared.Place.{Place}
 use Rattle.walk.proofs.ChoiceLaws.{cond-cases}
 use Rattle.window_numbers.specs.Numbers.{windowSize}
-use Rattle.usn_reader.specs.Window.{refusalOf, wantedOf, finished, fedBy, fresh}
+use Rattle.usn_reader.specs.Window.{windowRefusal, wantedOf, finished, fedBy, fresh}
 use Rattle.usn_reader.specs.Rule.{Reads, bufferReads, journalReads, reading, asking, searched}
 use Rattle.usn_reader.specs.Calls.{nextOf, giveRefusal, giveOf}
 use Rattle.usn_reader.specs.Journal.{windowList}
-use Rattle.usn_reader.specs.Run.{Call, next, give, nextOther, giveOther, State, Shape, asks, gives, shapeOf, readingOf, bufferOf, stateAfter, readings, reached, placeOf, givenBy, coming, Tells, freshOver}
+use Rattle.usn_reader.specs.Run.{Call, next, give, nextOther, giveOther, State, CallShape, asks, gives, shapeOf, readingOf, bufferOf, stateAfter, readings, reached, placeOf, givenBy, coming, GivesRecord, freshOver}
 use Rattle.usn_reader.specs.Owed.{Delivery, Lasting}
 use Rattle.usn_reader.specs.declared.UsnJournalReader.{UsnJournalReader}
 use Rattle.usn_reader.specs.declared.Answer.{Answer}
@@ -38,7 +38,7 @@ Quiet s w = w .ended ≡ true → coming s w ≡ []
 pub record Goes-on (s : List ℕ) (w : UsnJournalReader) (x : Reading) : Type 0 where
   pub whole : coming s w ≡ placeOf (x .answer) ++ coming s (x .reader)
   pub over : Over s (x .reader)
-  pub tells : Tells s (x .answer) (x .reader)
+  pub tells : GivesRecord s (x .answer) (x .reader)
 
 -- what holds after it where no empty giving ends the reading
 abbrev Stays-quiet : List ℕ → Reading → Type 0
@@ -46,7 +46,7 @@ Stays-quiet s x = (x .answer ≡ End → coming s (x .reader) ≡ []) × Quiet s
 
 module _ (s : List ℕ) (w : UsnJournalReader) (ov : Over s w) where
   -- the window comes back as it is, with no record
-  same : (a : Answer) → placeOf a ≡ [] → Tells s a w → Goes-on s w (reading a w)
+  same : (a : Answer) → placeOf a ≡ [] → GivesRecord s a w → Goes-on s w (reading a w)
   same a e t = record { whole = rw e; over = ov; tells = t }
 
   not-end : {a : Answer} → (a ≡ End → ⊥) → Quiet s w → Stays-quiet s (reading a w)
@@ -72,7 +72,7 @@ module _ (s : List ℕ) (w : UsnJournalReader) (ov : Over s w) where
   next-goes : (n : ℕ) → Fine (nextOf (journalReads s) n w)
   unfolding nextOf
   next-goes n =
-      cond-cases Fine (eqb (refusalOf w n) 0)
+      cond-cases Fine (eqb (windowRefusal w n) 0)
       (λ _. cond-cases Fine (w .ended) (λ e. (same End refl tt, λ q. (λ _. q e, q))) λ e.
       cond-cases Fine (eqb (wantedOf w) 0) (λ _. search-goes e) (λ _. (same _ refl tt, not-end wants-end)))
       (λ _. (same _ refl tt, not-end refused-end))
@@ -100,17 +100,17 @@ module _ (s : List ℕ) (w : UsnJournalReader) (ov : Over s w) where
       (λ _. not-end refused-end q)
 
 -- a giving that is accepted passed the window's own tests
-refusal-of : (n k : ℕ) (w : UsnJournalReader) → giveRefusal n k w ≡ 0 → refusalOf w n ≡ 0
+refusal-of : (n k : ℕ) (w : UsnJournalReader) → giveRefusal n k w ≡ 0 → windowRefusal w n ≡ 0
 unfolding giveRefusal
-refusal-of n k w = by (eqb (refusalOf w n) 0) refl
+refusal-of n k w = by (eqb (windowRefusal w n) 0) refl
   where
-    by : (t : Bool) → eqb (refusalOf w n) 0 ≡ t → cond t (cond (ltb (wantedOf w) k) tooManyBytes 0) (refusalOf w n) ≡ 0 → refusalOf w n ≡ 0
+    by : (t : Bool) → eqb (windowRefusal w n) 0 ≡ t → cond t (cond (ltb (wantedOf w) k) tooManyBytes 0) (windowRefusal w n) ≡ 0 → windowRefusal w n ≡ 0
     by true e = λ _. eqb-true _ _ e
     by false e = λ z. z
 
 module _ (s : List ℕ) where
-  abbrev Holds : State → Type 0
-  Holds st = Filled s (st .buffer) (st .window) × Over s (st .window)
+  abbrev BufferHolds : State → Type 0
+  BufferHolds st = Filled s (st .buffer) (st .window) × Over s (st .window)
 
   -- one call, over the journal
   journal-goes : (c : Call) (st : State) → Over s (st .window) → length (st .buffer) ≡ windowSize → Carries s c st
@@ -125,8 +125,8 @@ module _ (s : List ℕ) where
   )
 
   -- and with its buffer
-  call-goes : (c : Call) (st : State) → Holds st → Carries s c st
-      → Goes-on s (st .window) (readingOf c st) × (Goes c st → Quiet s (st .window) → Stays-quiet s (readingOf c st)) × Holds (stateAfter c st)
+  call-goes : (c : Call) (st : State) → BufferHolds st → Carries s c st
+      → Goes-on s (st .window) (readingOf c st) × (Goes c st → Quiet s (st .window) → Stays-quiet s (readingOf c st)) × BufferHolds (stateAfter c st)
   call-goes c st h k =
       let r = call-journal s c st (h .0) k in
       let g = journal-goes c st (h .1) (h .0 .size) k in
@@ -134,8 +134,8 @@ module _ (s : List ℕ) where
       (a, rw (r .0) (g .1), (r .1, a .over))
 
   -- a list of calls: what it gave, with what is to come, and what its answers tell
-  run-goes : (cs : List Call) (st : State) → Holds st → AllCarry s cs st
-      → (givenBy (readings cs st) ++ coming s (reached cs st .window) ≡ coming s (st .window)) × All (λ x. Tells s (x .answer) (x .reader)) (readings cs st)
+  run-goes : (cs : List Call) (st : State) → BufferHolds st → AllCarry s cs st
+      → (givenBy (readings cs st) ++ coming s (reached cs st .window) ≡ coming s (st .window)) × All (λ x. GivesRecord s (x .answer) (x .reader)) (readings cs st)
   run-goes [] st h k = (refl, tt)
   run-goes (c ∷ cs) st h k =
       let g = call-goes c st h (k .0) in
@@ -147,7 +147,7 @@ module _ (s : List ℕ) where
       )
 
   -- and nothing is to come after an end, unless an empty giving ended the reading
-  run-ends : (cs : List Call) (st : State) → Holds st → AllCarry s cs st → AllGo cs st → Quiet s (st .window)
+  run-ends : (cs : List Call) (st : State) → BufferHolds st → AllCarry s cs st → AllGo cs st → Quiet s (st .window)
       → All (λ x. x .answer ≡ End → coming s (x .reader) ≡ []) (readings cs st)
   run-ends [] st h k o q = tt
   run-ends (c ∷ cs) st h k o q =
@@ -155,7 +155,7 @@ module _ (s : List ℕ) where
       let e = g .1 (o .0) q in
       (e .0, run-ends cs (stateAfter c st) (g .2) (k .1) (o .1) (e .1))
 
-  fresh-holds : (b : List ℕ) → length b ≡ windowSize → Holds (freshOver s b)
+  fresh-holds : (b : List ℕ) → length b ≡ windowSize → BufferHolds (freshOver s b)
   fresh-holds b e = (
     record { size = e; total = refl; bytes = λ i h. absurd (omega arith) },
     record { total = refl; steady = record { inside = omega arith; near = omega arith } },
@@ -163,7 +163,7 @@ module _ (s : List ℕ) where
 
   pub short-reads : (b : List ℕ) → length b ≡ windowSize → (cs : List Call) → Delivery s b cs
       → (givenBy (readings cs (freshOver s b)) ++ coming s (reached cs (freshOver s b) .window) ≡ windowList s)
-      × All (λ x. Tells s (x .answer) (x .reader)) (readings cs (freshOver s b))
+      × All (λ x. GivesRecord s (x .answer) (x .reader)) (readings cs (freshOver s b))
   short-reads b e cs k = run-goes cs (freshOver s b) (fresh-holds b e) (delivery-carries s b cs k)
 
   pub no-early-end : (b : List ℕ) → length b ≡ windowSize → (cs : List Call) → Delivery s b cs → Lasting s b cs
@@ -171,8 +171,8 @@ module _ (s : List ℕ) where
   no-early-end b e cs k o = run-ends cs (freshOver s b) (fresh-holds b e) (delivery-carries s b cs k) (lasting-goes s b cs o) (λ f. absurd (true≢false (sym f)))
 
   -- the state that a list of calls reaches holds the journal as well, and is quiet
-  run-reaches : (cs ds : List Call) (st : State) → Holds st → AllCarry s (cs ++ ds) st → AllGo (cs ++ ds) st → Quiet s (st .window)
-      → Holds (reached cs st) × Quiet s (reached cs st .window) × AllCarry s ds (reached cs st) × AllGo ds (reached cs st)
+  run-reaches : (cs ds : List Call) (st : State) → BufferHolds st → AllCarry s (cs ++ ds) st → AllGo (cs ++ ds) st → Quiet s (st .window)
+      → BufferHolds (reached cs st) × Quiet s (reached cs st .window) × AllCarry s ds (reached cs st) × AllGo ds (reached cs st)
   run-reaches [] ds st h k o q = (h, q, k, o)
   run-reaches (c ∷ cs) ds st h k o q =
       let g = call-goes c st h (k .0) in

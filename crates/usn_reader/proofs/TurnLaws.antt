@@ -26,7 +26,7 @@ use Rattle.usn_reader.specs.declared.turn.Turn.{Turn}
 use Rattle.usn_reader.specs.declared.turn.Turn.the-variants.{Done, Again}
 
 -- a record with another name, as code makes it
-pub named : (o : ℕ) (r : UsnRecord) {p : Place} → p ≡ placeFrom o (r .filename)
+pub renamed : (o : ℕ) (r : UsnRecord) {p : Place} → p ≡ placeFrom o (r .filename)
     → _≡_ {A = UsnRecord} (record {
       «mft_entry» = r .«mft_entry»;
       «mft_sequence» = r .«mft_sequence»;
@@ -47,7 +47,7 @@ pub named : (o : ℕ) (r : UsnRecord) {p : Place} → p ≡ placeFrom o (r .file
       «parent_reference_high» = r .«parent_reference_high»;
     }) (namedFrom o r)
 unfolding namedFrom
-named o r e = rw e
+renamed o r e = rw e
 
 module _ (r : Reads) (w : UsnJournalReader) where
   -- fewer than 8 bytes are left

@@ -17,7 +17,7 @@ use Rattle.usn_record.specs.Record.{listed}
 use Rattle.usn_record.specs.Names.{fixedOf, nameAt}
 use Rattle.usn_record.proofs.NameLaws.{fixed-low, listed-agrees, name-after-fixed, name-before-end}
 use Rattle.window_numbers.specs.Numbers.{windowSize}
-use Rattle.usn_reader.specs.Run.{Call, Shape, asks, gives, shapeOf, readings, placeOf, givenBy, freshOver, shapes}
+use Rattle.usn_reader.specs.Run.{Call, CallShape, asks, gives, shapeOf, readings, placeOf, givenBy, freshOver, shapes}
 use Rattle.usn_reader.specs.Owed.{Delivery}
 use Rattle.usn_reader.specs.declared.UsnJournalReader.{UsnJournalReader}
 use Rattle.usn_reader.specs.declared.Answer.{Answer}
@@ -64,19 +64,19 @@ module _ (s t : List ℕ) where
   own-same End p q g a = tt
   own-same (Refused m) p q g a = tt
 
-  call-good : (c : Shape) (w : UsnJournalReader) → Good s (w .position) (journalReading s c w .answer) (journalReading s c w .reader .position)
+  call-good : (c : CallShape) (w : UsnJournalReader) → Good s (w .position) (journalReading s c w .answer) (journalReading s c w .reader .position)
   unfolding journalReading
   call-good (asks n) w = next-good s n w
   call-good (gives n k) w = give-good s n k w
 
-  call-reads : (c : Shape) (w : UsnJournalReader) → Agree s t (w .position) (reach s (journalReading s c w .answer) (journalReading s c w .reader .position))
+  call-reads : (c : CallShape) (w : UsnJournalReader) → Agree s t (w .position) (reach s (journalReading s c w .answer) (journalReading s c w .reader .position))
       → journalReading t c w ≡ journalReading s c w
   unfolding journalReading
   call-reads (asks n) w a = next-reads s t n w a
   call-reads (gives n k) w a = refl
 
   -- a list of calls from position p on gives no name before p + 60
-  run-low : (cs : List Shape) (w : UsnJournalReader) (i : ℕ) → i < w .position + 60 → Apart (names (givenBy (journalReadings s cs w))) i
+  run-low : (cs : List CallShape) (w : UsnJournalReader) (i : ℕ) → i < w .position + 60 → Apart (names (givenBy (journalReadings s cs w))) i
   run-low [] w i h = tt
   run-low (c ∷ cs) w i h =
       let x : Reading = journalReading s c w in
@@ -85,7 +85,7 @@ module _ (s t : List ℕ) where
       (apart-append (names (placeOf (x .answer))) (names (givenBy (journalReadings s cs (x .reader)))) i (own-low (x .answer) (w .position) (x .reader .position) i g h)
       (run-low cs (x .reader) i (omega (arith, good-up s (x .answer) (w .position) (x .reader .position) g))))
 
-  run-two : length t ≡ length s → (cs : List Shape) (w : UsnJournalReader) → Same s t (names (givenBy (journalReadings s cs w))) (w .position)
+  run-two : length t ≡ length s → (cs : List CallShape) (w : UsnJournalReader) → Same s t (names (givenBy (journalReadings s cs w))) (w .position)
       → (journalReadings t cs w ≡ journalReadings s cs w) × All (λ (x : Place). listed t (x .offset) ≡ listed s (x .offset)) (givenBy (journalReadings s cs w))
   run-two e [] w m = (refl, tt)
   run-two e (c ∷ cs) w m =

@@ -6,7 +6,7 @@ use lib.ListN.{length}
 use lib.Seq.{sets}
 use lib.Dec.{ltb, eqb}
 use Rattle.walk.specs.Refusals.{tooManyBytes}
-use Rattle.usn_reader.specs.Window.{refusalOf, wantedOf, finished, fedBy}
+use Rattle.usn_reader.specs.Window.{windowRefusal, wantedOf, finished, fedBy}
 use Rattle.usn_reader.specs.Rule.{Reads, reading, asking, searched}
 use Rattle.usn_reader.specs.declared.UsnJournalReader.{UsnJournalReader}
 use Rattle.usn_reader.specs.declared.Answer.the-variants.{Record, Wants, End, Refused}
@@ -15,14 +15,14 @@ use Rattle.usn_reader.specs.declared.Reading.{Reading}
 -- next, with a buffer of n bytes
 unfoldable pub nextOf : Reads → ℕ → UsnJournalReader → Reading
 nextOf r n w =
-    cond (eqb (refusalOf w n) 0)
+    cond (eqb (windowRefusal w n) 0)
     (cond (w .ended) (reading End w)
     (cond (eqb (wantedOf w) 0) (searched r w) (asking w)))
-    (reading (Refused (refusalOf w n)) w)
+    (reading (Refused (windowRefusal w n)) w)
 
 -- the refusal of giving k bytes with a buffer of n, or 0
 unfoldable pub giveRefusal : ℕ → ℕ → UsnJournalReader → ℕ
-giveRefusal n k w = cond (eqb (refusalOf w n) 0) (cond (ltb (wantedOf w) k) tooManyBytes 0) (refusalOf w n)
+giveRefusal n k w = cond (eqb (windowRefusal w n) 0) (cond (ltb (wantedOf w) k) tooManyBytes 0) (windowRefusal w n)
 
 -- giving k bytes: none while some are wanted is the end, none while none are wanted changes nothing
 unfoldable pub giveOf : ℕ → ℕ → UsnJournalReader → Reading

@@ -14,9 +14,9 @@ use Rattle.usn_record.specs.declared.UsnRecord.{UsnRecord}
 use Rattle.window_numbers.specs.Numbers.{windowSize, windowEnd}
 
 -- what the window does at position p, where its window ends at e: it is over, or goes on at another position with another end
-pub data Step : Type 0 where
-  over : Step
-  onto : List Place → ℕ → ℕ → Step
+pub data WindowStep : Type 0 where
+  over : WindowStep
+  onto : List Place → ℕ → ℕ → WindowStep
 
 -- a record of n bytes at p is listed where its parser accepts it
 abbrev pub found : ℕ → ℕ → Outcome UsnRecord → List Place
@@ -24,10 +24,10 @@ found p n (refused m) = []
 found p n (answered r) = record { offset = p; length = n } ∷ []
 
 -- over, where the window's end e is the stream's; otherwise on to the position q with a window from p
-abbrev pub refillTo : ℕ → ℕ → ℕ → ℕ → Step
+abbrev pub refillTo : ℕ → ℕ → ℕ → ℕ → WindowStep
 refillTo total p e q = cond (eqb e total) over (onto [] q (windowEnd p total))
 
-unfoldable pub stepAt : List ℕ → ℕ → ℕ → Step
+unfoldable pub stepAt : List ℕ → ℕ → ℕ → WindowStep
 stepAt s p e =
     let total = length s in
     let n = leAt 4 s p in
@@ -36,7 +36,7 @@ stepAt s p e =
     (cond (ltb e (p + n)) (refillTo total p e (cond (ltb total (p + n)) (p + 8) p))
     (onto (found p n (listed s p)) (p + round8 n) e)))
 
-abbrev pub afterStep : Step → (ℕ → ℕ → List Place) → List Place
+abbrev pub afterStep : WindowStep → (ℕ → ℕ → List Place) → List Place
 afterStep over f = []
 afterStep (onto ps p e) f = ps ++ f p e
 

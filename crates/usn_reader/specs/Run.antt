@@ -57,17 +57,17 @@ reached (c ∷ cs) st = reached cs (stateAfter c st)
 
 -- what two runs of a list of calls have in common: which calls they are, with buffers of which lengths, and how many bytes are given. The
 -- window's own buffer has `windowSize` bytes.
-pub data Shape : Type 0 where
-  asks : ℕ → Shape
-  gives : ℕ → ℕ → Shape
+pub data CallShape : Type 0 where
+  asks : ℕ → CallShape
+  gives : ℕ → ℕ → CallShape
 
-abbrev pub shapeOf : Call → Shape
+abbrev pub shapeOf : Call → CallShape
 shapeOf next = asks windowSize
 shapeOf (give x) = gives windowSize (length x)
 shapeOf (nextOther b) = asks (length b)
 shapeOf (giveOther b x) = gives (length b) (length x)
 
-abbrev pub shapes : List Call → List Shape
+abbrev pub shapes : List Call → List CallShape
 shapes [] = []
 shapes (c ∷ cs) = shapeOf c ∷ shapes cs
 
@@ -87,17 +87,17 @@ abbrev pub coming : List ℕ → UsnJournalReader → List Place
 coming s w = toCome s (w .position) (w .end)
 
 -- the record that an answer gives at o is the journal's, with its name's place counted from the start of the buffer, which is the window's
-pub record Told (s : List ℕ) (o n : ℕ) (r : UsnRecord) (w : UsnJournalReader) : Type 0 where
+pub record RecordGiven (s : List ℕ) (o n : ℕ) (r : UsnRecord) (w : UsnJournalReader) : Type 0 where
   pub fields : UsnRecord
   pub is : listed s o ≡ answered fields
   pub named : r ≡ namedFrom (o - w .start) fields
   pub size : n ≡ leAt 4 s o
 
-abbrev pub Tells : List ℕ → Answer → UsnJournalReader → Type 0
-Tells s (Record o n r) w = Told s o n r w
-Tells s (Wants from bytes) w = Unit {0}
-Tells s End w = Unit {0}
-Tells s (Refused n) w = Unit {0}
+abbrev pub GivesRecord : List ℕ → Answer → UsnJournalReader → Type 0
+GivesRecord s (Record o n r) w = RecordGiven s o n r w
+GivesRecord s (Wants from bytes) w = Unit {0}
+GivesRecord s End w = Unit {0}
+GivesRecord s (Refused n) w = Unit {0}
 
 -- a fresh window over a journal, with a buffer
 abbrev pub freshOver : List ℕ → List ℕ → State

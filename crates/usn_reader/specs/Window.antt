@@ -3,7 +3,7 @@ use Prim.Native.Nat.{ℕ, _+_, _-_, _%_, _≤_}
 use mathlib.Core.Path.{_≡_}
 use mathlib.Core.Bool.{true, false, cond}
 use Rattle.walk.specs.Places.{round8}
-use Rattle.window_numbers.specs.Numbers.{windowSize, streamDomain, windowEnd, Numbers, numbersOf, refusalOf as refusalOfNumbers}
+use Rattle.window_numbers.specs.Numbers.{windowSize, streamDomain, windowEnd, Numbers, numbersOf, numbersRefusal}
 use Rattle.usn_reader.specs.declared.UsnJournalReader.{UsnJournalReader}
 
 -- those that decide whether a call is refused
@@ -11,8 +11,8 @@ abbrev pub numbersIn : UsnJournalReader → Numbers
 numbersIn w = numbersOf (w .start) (w .position) (w .end) (w .held) (w .total)
 
 -- the refusal of a call with a buffer of n bytes, or 0
-abbrev pub refusalOf : UsnJournalReader → ℕ → ℕ
-refusalOf w n = refusalOfNumbers (numbersIn w) n
+abbrev pub windowRefusal : UsnJournalReader → ℕ → ℕ
+windowRefusal w n = numbersRefusal (numbersIn w) n
 
 -- the bytes that the window still wants; none after an end
 unfoldable pub wantedOf : UsnJournalReader → ℕ

@@ -1,7 +1,7 @@
 // The window's numbers: which may be a window's, what it wants, and its moves, each a method that returns the next window.
 ghost use mathlib.Core.Path.{_≡_};
 ghost use Prim.Native.Nat.{_+_, _≤_, _<_};
-ghost use Rattle.usn_reader.specs.Window.{refusalOf, wantedOf, refilled, skipped, advanced, finished, fedBy};
+ghost use Rattle.usn_reader.specs.Window.{windowRefusal, wantedOf, refilled, skipped, advanced, finished, fedBy};
 ghost use Rattle.usn_reader.specs.Rule.{asking as asks};
 use crate::Answer;
 use crate::Reading;
@@ -12,7 +12,7 @@ use window_numbers::window_end;
 impl UsnJournalReader {
     // The number of the refusal of a call with a buffer of so many bytes, or 0.
     pub(crate) fn refusal(self, buffer_length: usize) -> u32
-        ensures { λ r. ⌜ r ≡ refusalOf self «buffer_length» ⌝ }
+        ensures { λ r. ⌜ r ≡ windowRefusal self «buffer_length» ⌝ }
     {
         refusal(
             self.start,

@@ -22,7 +22,7 @@ use Rattle.usn_record.specs.Record.{maxRecord, recordOf, parsed, asListe
 use Rattle.usn_record.specs.Names.{fixedOf, namePast, nameAt}
 use Rattle.usn_record.specs.declared.UsnRecord.{UsnRecord}
 use Rattle.usn_record.proofs.ByteLaws.{read-part, read-agree}
-use Rattle.usn_record.proofs.RecordLaws.{Accepts, accepts, Inside, v2-inside, v3-inside, part-accepted, major-of}
+use Rattle.usn_record.proofs.RecordLaws.{Accepts, accepts, FieldsInside, v2-inside, v3-inside, part-accepted, major-of}
 use Rattle.usn_record.proofs.NameLaws.{fixed-low, listed-agrees}
 
 -- a record of version 2 or 3 stands at o: n bytes, as its length field says, from its fixed part to the largest, and they end inside
@@ -34,8 +34,8 @@ pub record WholeRecord (s : List ℕ) (o n : ℕ) : Type 0 where
   pub version : (leAt 2 s (o + 4) ≡ 2) ⊎ (leAt 2 s (o + 4) ≡ 3)
 
 -- the layout of a version has its fields in its fixed part
-layout-inside : (v : ℕ) → Inside (layoutOf v)
-layout-inside v = cond-cases Inside (eqb v 2) (λ _. v2-inside) (λ _. v3-inside)
+layout-inside : (v : ℕ) → FieldsInside (layoutOf v)
+layout-inside v = cond-cases FieldsInside (eqb v 2) (λ _. v2-inside) (λ _. v3-inside)
 
 layout-fixed : (v : ℕ) → layoutOf v .fixed ≡ fixedOf v
 layout-fixed v = by (eqb v 2)
@@ -64,7 +64,7 @@ module _ {s : List ℕ} {o n : ℕ} (w : WholeRecord s o n) where
       by (inr e) = simp (le-ltb _ _ header, sym (w .size), le-ltb _ _ (w .inside), e, rw e at whole-parsed)
 
 -- the name of a record of n bytes at o, by the name's offset k and length m as they are read there
-record-name : (l : Layout) → Inside l → l .nameInRecord ≡ false → (s : List ℕ) (o n : ℕ) → o + n ≤ length s → l .fixed ≤ n
+record-name : (l : Layout) → FieldsInside l → l .nameInRecord ≡ false → (s : List ℕ) (o n : ℕ) → o + n ≤ length s → l .fixed ≤ n
     → {k m : ℕ} → k ≡ leAt 2 s (o + l .nameOffset) → m ≡ leAt 2 s (o + l .nameLength) → 2 ≤ m → k + m ≤ n
     → recordOf l (part s o n) .filename ≡ record { offset = k; length = m / 2 * 2 }
 unfolding recordOf filenameOf

@@ -53,8 +53,8 @@ listed-agrees {s} {t} o a =
     other v e = rw e
 
 -- the name of the record of n bytes at o, whose version is v, lies from the fixed part up to the end
-abbrev Lies : ℕ → ℕ → ℕ → Outcome UsnRecord → Type 0
-Lies o n v x = (i : ℕ) → (o + fixedOf v ≤ i → i < o + n → ⊥) → Apart (namePast o x) i
+abbrev NameBetween : ℕ → ℕ → ℕ → Outcome UsnRecord → Type 0
+NameBetween o n v x = (i : ℕ) → (o + fixedOf v ≤ i → i < o + n → ⊥) → Apart (namePast o x) i
 
 within-from : (o n f : ℕ) (p : Place) (i : ℕ) → f ≤ p .offset → p .offset + p .length ≤ n → Within (placeFrom o p) i → (o + f ≤ i) × (i < o + n)
 within-from o n f p i h k =
@@ -64,7 +64,7 @@ module _ (s : List ℕ) (o n : ℕ) (l : Layout) (slice : l .nameInRecord ≡ fa
   name-end : nameEnd l (part s o n) ≤ n
   name-end = rw slice (simp length-take (omega arith))
 
-  record-lies : (r : UsnRecord) → r ≡ recordOf l (part s o n) → (v : ℕ) → v ≡ l .major → Lies o n v (answered r)
+  record-lies : (r : UsnRecord) → r ≡ recordOf l (part s o n) → (v : ℕ) → v ≡ l .major → NameBetween o n v (answered r)
   record-lies r er v ev i out =
       let e : r .«major_version» ≡ v = ap (λ (x : UsnRecord). x .«major_version») er ∙ major-of l (part s o n) ∙ sym ev in
       let k : r .filename .offset + r .filename .length ≤ n = rw er (omega (arith, name-lies l (part s o n) .0, name-end)) in
@@ -73,16 +73,16 @@ module _ (s : List ℕ) (o n : ℕ) (l : Layout) (slice : l .nameInRecord ≡ fa
       (λ f. (λ w. let x = within-from o n (fixedOf v) (r .filename) i (ltb-false _ _ f) k w in out (x .0) (x .1), tt)))
 
   -- what a parser said of the record
-  parsed-lies : (x : Outcome UsnRecord) → parsed l (part s o n) ≡ x → (v : ℕ) → v ≡ l .major → Lies o n v (asListed x)
+  parsed-lies : (x : Outcome UsnRecord) → parsed l (part s o n) ≡ x → (v : ℕ) → v ≡ l .major → NameBetween o n v (asListed x)
   parsed-lies (refused m) e v ev = λ i out. tt
   parsed-lies (answered r) e v ev = record-lies r (accepts l (part s o n) r e .1) v ev
 
-listed-lies : (s : List ℕ) (o : ℕ) → Lies o (leAt 4 s o) (leAt 2 s (o + 4)) (listed s o)
+listed-lies : (s : List ℕ) (o : ℕ) → NameBetween o (leAt 4 s o) (leAt 2 s (o + 4)) (listed s o)
 unfolding listed
 listed-lies s o =
     let n = leAt 4 s o in
     let v = leAt 2 s (o + 4) in
-    let P : Outcome UsnRecord → Type 0 = Lies o n v in
+    let P : Outcome UsnRecord → Type 0 = NameBetween o n v in
     cond-cases P (ltb (length s) (o + 8)) (λ _ i out. tt) λ _.
     cond-cases P (ltb (length s) (o + n)) (λ _ i out. tt) λ _.
     cond-cases P (eqb v 2) (λ e. parsed-lies s o n v2 refl (parsed v2 (part s o n)) refl v (eqb-true v 2 e)) λ _.
@@ -98,19 +98,19 @@ unfolding nameAt
 name-before-end s o i h = listed-lies s o i (λ a b. omega arith)
 
 -- a listed record's name lies in the record
-abbrev Inside : ℕ → Outcome UsnRecord → Type 0
-Inside n (refused m) = Unit {0}
-Inside n (answered r) = r .filename .offset + r .filename .length ≤ n
+abbrev NameInside : ℕ → Outcome UsnRecord → Type 0
+NameInside n (refused m) = Unit {0}
+NameInside n (answered r) = r .filename .offset + r .filename .length ≤ n
 
-parsed-inside : (s : List ℕ) (o n : ℕ) (l : Layout) → l .nameInRecord ≡ false → (x : Outcome UsnRecord) → parsed l (part s o n) ≡ x → Inside n (asListed x)
+parsed-inside : (s : List ℕ) (o n : ℕ) (l : Layout) → l .nameInRecord ≡ false → (x : Outcome UsnRecord) → parsed l (part s o n) ≡ x → NameInside n (asListed x)
 parsed-inside s o n l k (refused m) e = tt
 parsed-inside s o n l k (answered r) e = rw (accepts l (part s o n) r e .1) (omega (arith, name-lies l (part s o n) .0, name-end s o n l k))
 
-listed-inside : (s : List ℕ) (o : ℕ) → Inside (leAt 4 s o) (listed s o)
+listed-inside : (s : List ℕ) (o : ℕ) → NameInside (leAt 4 s o) (listed s o)
 unfolding listed
 listed-inside s o =
     let n = leAt 4 s o in
-    let P : Outcome UsnRecord → Type 0 = Inside n in
+    let P : Outcome UsnRecord → Type 0 = NameInside n in
     cond-cases P (ltb (length s) (o + 8)) (λ _. tt) λ _.
     cond-cases P (ltb (length s) (o + n)) (λ _. tt) λ _.
     cond-cases P (eqb (leAt 2 s (o + 4)) 2) (λ _. parsed-inside s o n v2 refl (parsed v2 (part s o n)) refl) λ _.

@@ -141,7 +141,7 @@ module _ (l : Layout) (s : List ℕ) where
   assembled a b c d e f g h i j k m n o p q r t = cc
 
 -- every field of a layout lies in its fixed part
-pub record Inside (l : Layout) : Type 0 where
+pub record FieldsInside (l : Layout) : Type 0 where
   pub file : l .file + l .reference ≤ l .fixed
   pub parent : l .parent + l .reference ≤ l .fixed
   pub usn : l .usn + 8 ≤ l .fixed
@@ -154,13 +154,13 @@ pub record Inside (l : Layout) : Type 0 where
   pub nameOffset : l .nameOffset + 2 ≤ l .fixed
   pub header : 8 ≤ l .fixed
 
-pub v2-inside : Inside v2
+pub v2-inside : FieldsInside v2
 v2-inside = record { file = omega arith; parent = omega arith; usn = omega arith; time = omega arith; reason = omega arith; source = omega arith; security = omega arith; attributes = omega arith; nameLength = omega arith; nameOffset = omega arith; header = omega arith }
 
-pub v3-inside : Inside v3
+pub v3-inside : FieldsInside v3
 v3-inside = record { file = omega arith; parent = omega arith; usn = omega arith; time = omega arith; reason = omega arith; source = omega arith; security = omega arith; attributes = omega arith; nameLength = omega arith; nameOffset = omega arith; header = omega arith }
 
-module _ (l : Layout) (k : Inside l) where
+module _ (l : Layout) (k : FieldsInside l) where
   -- the fields read only the fixed part, and the length of the slice
   module _ {s t : List ℕ} (a : Agree s t 0 (l .fixed)) where
     read : (w i : ℕ) → i + w ≤ l .fixed → leAt w t i ≡ leAt w s i

@@ -16,7 +16,7 @@ use Rattle.usn_record.specs.Bytes.{leAt}
 use Rattle.usn_record.specs.Layout.{Layout}
 use Rattle.usn_record.specs.Record.{maxRecord, parsed, asListed, listed, isAnswered, fitsRecord}
 use Rattle.usn_record.specs.declared.UsnRecord.{UsnRecord}
-use Rattle.usn_record.proofs.RecordLaws.{Accepts, accepts, accepted, Inside, part-length-field, part-accepts}
+use Rattle.usn_record.proofs.RecordLaws.{Accepts, accepts, accepted, FieldsInside, part-length-field, part-accepts}
 
 -- the tests of a length, one after the other
 pub fits-below : (fixed n : ℕ) → n < fixed → false ≡ fitsRecord fixed n
@@ -32,7 +32,7 @@ answered-listed : (x : Outcome UsnRecord) → isAnswered (asListed x) ≡ isAnsw
 answered-listed (refused m) = refl
 answered-listed (answered r) = refl
 
-module _ (l : Layout) (k : Inside l) (s : List ℕ) (o : ℕ) {n : ℕ} (e : n ≡ leAt 4 s o) (b : o + n ≤ length s) where
+module _ (l : Layout) (k : FieldsInside l) (s : List ℕ) (o : ℕ) {n : ℕ} (e : n ≡ leAt 4 s o) (b : o + n ≤ length s) where
   fits-accepts : fitsRecord (l .fixed) n ≡ true → Accepts l (part s o n)
   unfolding fitsRecord
   fits-accepts h =

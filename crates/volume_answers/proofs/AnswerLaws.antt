@@ -21,10 +21,10 @@ use Rattle.chain.specs.declared.ChainAnswer.the-variants.{Resolved}
 use Rattle.chain.specs.declared.ChainEnd.{ChainEnd}
 use Rattle.chain.specs.declared.ChainEnd.the-variants.{Root, Unknown, Unresolved}
 use Rattle.chain.specs.declared.ResolvedPath.{ResolvedPath}
-use Rattle.path.specs.Telling.{outcome as pathOutcome}
+use Rattle.path.specs.Written.{outcome as pathOutcome}
 use Rattle.path.specs.declared.PathAnswer.{PathAnswer}
 use Rattle.path.specs.declared.PathAnswer.the-variants.{Path}
-use Rattle.volume_answers.specs.Path.{endNumbers, resolvedWords, toldWords}
+use Rattle.volume_answers.specs.Path.{endNumbers, resolvedWords, writtenWords}
 use Rattle.volume_answers.specs.declared.paths.EndNumbers.{EndNumbers}
 use Rattle.utf16.specs.Decoding.{outcome as decodingOutcome}
 use Rattle.utf16.specs.declared.Decoded.{Decoded}
@@ -47,15 +47,15 @@ pub chain-answered : (y : ChainAnswer) (l : List ℕ) {p : ResolvedPath} → y �
 chain-answered y l e h f g = out-answered resolvedWords l (ap chainOutcome e) h f g
 
 pub path-answered : (y : PathAnswer) (l : List ℕ) {p : ResolvedPath} {n : ℕ} → y ≡ Path p n → 5 ≤ length l → {row m : List ℕ}
-    → row ≡ toldWords (record { path = p; text = n }) → m ≡ sets l 0 row → Answers toldWords (pathOutcome y) l 0 m
-path-answered y l e h f g = out-answered toldWords l (ap pathOutcome e) h f g
+    → row ≡ writtenWords (record { path = p; text = n }) → m ≡ sets l 0 row → Answers writtenWords (pathOutcome y) l 0 m
+path-answered y l e h f g = out-answered writtenWords l (ap pathOutcome e) h f g
 
 -- the numbers of an end in a row
 module _ (p : ResolvedPath) {e : EndNumbers} (f : e ≡ endNumbers (p .end)) where
   pub resolved-made : _≡_ {A = List ℕ} (p .names ∷ e .kind ∷ e .entry ∷ e .sequence ∷ []) (resolvedWords p)
   resolved-made = rw f
 
-  pub told-made : (n : ℕ) → _≡_ {A = List ℕ} (p .names ∷ e .kind ∷ e .entry ∷ e .sequence ∷ n ∷ []) (toldWords (record { path = p; text = n }))
+  pub told-made : (n : ℕ) → _≡_ {A = List ℕ} (p .names ∷ e .kind ∷ e .entry ∷ e .sequence ∷ n ∷ []) (writtenWords (record { path = p; text = n }))
   told-made n = rw f
 
 -- an end by its case

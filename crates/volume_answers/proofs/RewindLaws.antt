@@ -13,7 +13,7 @@ use Rattle.chain.specs.declared.ResolvedPath.{ResolvedPath}
 use Rattle.rewind.specs.Starting.{startOutcome}
 use Rattle.rewind_records.specs.Turning.{Next, ended, next}
 use Rattle.rewind.specs.Stepping.{outcome as stepOutcome}
-use Rattle.rewind.specs.Telling.{toldOutcome}
+use Rattle.rewind.specs.Written.{writtenOutcome}
 use Rattle.rewind.specs.declared.Rewind.{Rewind}
 use Rattle.rewind.specs.declared.Started.{Started}
 use Rattle.rewind.specs.declared.Started.the-variants.{Begun}
@@ -21,7 +21,7 @@ use Rattle.rewind.specs.declared.NextChain.{NextChain}
 use Rattle.rewind.specs.declared.NextChain.the-variants as chain
 use Rattle.rewind.specs.declared.NextPath.{NextPath}
 use Rattle.rewind.specs.declared.NextPath.the-variants as path
-use Rattle.volume_answers.specs.Path.{resolvedWords, toldWords}
+use Rattle.volume_answers.specs.Path.{resolvedWords, writtenWords}
 use Rattle.volume_answers.specs.Rewind.{rewindWords, nextWords}
 
 pub start-answered : (y : Started) (l : List ℕ) {r : Rewind} → y ≡ Begun r → 2 ≤ length l → {row m : List ℕ} → row ≡ rewindWords r
@@ -49,9 +49,9 @@ module _ (y : NextChain) (w : Rewind) (l : List ℕ) (h : 7 ≤ length l) where
 
 -- and with it
 module _ (y : NextPath) (w : Rewind) (l : List ℕ) (h : 8 ≤ length l) where
-  pub path-ended : y ≡ path.End → {m : List ℕ} → m ≡ sets l 0 (0 ∷ rewindWords w) → Answers (nextWords toldWords w) (toldOutcome y) l 0 m
-  path-ended e g = ended-answered toldWords w l (ap toldOutcome e) (omega arith) g
+  pub path-ended : y ≡ path.End → {m : List ℕ} → m ≡ sets l 0 (0 ∷ rewindWords w) → Answers (nextWords writtenWords w) (writtenOutcome y) l 0 m
+  path-ended e g = ended-answered writtenWords w l (ap writtenOutcome e) (omega arith) g
 
   pub path-record : {p : ResolvedPath} {k : ℕ} → y ≡ path.Record p k → {m n row : List ℕ} → m ≡ sets l 0 (1 ∷ rewindWords w)
-      → row ≡ toldWords (record { path = p; text = k }) → n ≡ sets m 3 row → Answers (nextWords toldWords w) (toldOutcome y) l 0 n
-  path-record e p q g = record-answered toldWords w l (ap toldOutcome e) h p q g
+      → row ≡ writtenWords (record { path = p; text = k }) → n ≡ sets m 3 row → Answers (nextWords writtenWords w) (writtenOutcome y) l 0 n
+  path-record e p q g = record-answered writtenWords w l (ap writtenOutcome e) h p q g

@@ -5,7 +5,7 @@ use Rattle.entry_slots.specs.declared.EntryKey.{EntryKey}
 use Rattle.chain.specs.declared.ChainEnd.{ChainEnd}
 use Rattle.chain.specs.declared.ChainEnd.the-variants.{Root, Unknown, Unresolved}
 use Rattle.chain.specs.declared.ResolvedPath.{ResolvedPath}
-use Rattle.path.specs.Telling.{Told}
+use Rattle.path.specs.Written.{WrittenPath}
 use Rattle.volume_answers.specs.declared.paths.EndNumbers.{EndNumbers}
 
 -- an end as numbers: 0 is the root, 1 an unknown key, 2 an unresolved one, and the key follows
@@ -21,5 +21,5 @@ endNumbers (Unresolved k) = endAs 2 k
 abbrev pub resolvedWords : ResolvedPath → List ℕ
 resolvedWords p = let e = endNumbers (p .end) in p .names ∷ e .kind ∷ e .entry ∷ e .sequence ∷ []
 
-abbrev pub toldWords : Told → List ℕ
-toldWords t = let e = endNumbers (t .path .end) in t .path .names ∷ e .kind ∷ e .entry ∷ e .sequence ∷ t .text ∷ []
+abbrev pub writtenWords : WrittenPath → List ℕ
+writtenWords t = let e = endNumbers (t .path .end) in t .path .names ∷ e .kind ∷ e .entry ∷ e .sequence ∷ t .text ∷ []

@@ -4,8 +4,8 @@ ghost use Prim.Native.Nat.{_≤_};
 ghost use lib.ListN.{length};
 ghost use Rattle.usn_answers.specs.Promise.{AnswerPromise};
 ghost use Rattle.chain.specs.Tracing.{outcome as chainOutcome};
-ghost use Rattle.path.specs.Telling.{outcome as pathOutcome};
-ghost use Rattle.volume_answers.specs.Path.{endNumbers, resolvedWords, toldWords};
+ghost use Rattle.path.specs.Written.{outcome as pathOutcome};
+ghost use Rattle.volume_answers.specs.Path.{endNumbers, resolvedWords, writtenWords};
 use chain::ChainAnswer;
 use chain::ChainEnd;
 use chain::ResolvedPath;
@@ -42,7 +42,7 @@ pub fn put_chain(answer: ChainAnswer, out: &mut [u64]) -> u32
 // A path with text, likewise.
 pub fn put_path(answer: PathAnswer, out: &mut [u64]) -> u32
     requires { ⌜ 5 ≤ length (now out) ⌝ }
-    ensures { λ r. ⌜ AnswerPromise toldWords (pathOutcome answer) out r ⌝ }
+    ensures { λ r. ⌜ AnswerPromise writtenWords (pathOutcome answer) out r ⌝ }
 {
     match answer {
         PathAnswer::Path { path, text } => {
@@ -65,7 +65,7 @@ pub(crate) fn resolved_row(path: ResolvedPath) -> [u64; 4]
 
 // Names, end and the text's length.
 pub(crate) fn told_row(path: ResolvedPath, text: usize) -> [u64; 5]
-    ensures { λ row. ⌜ row ≡ toldWords (record { path = path; text = text }) ⌝ }
+    ensures { λ row. ⌜ row ≡ writtenWords (record { path = path; text = text }) ⌝ }
 {
     let last = path.end;
     let end = end_numbers(last);

@@ -7,8 +7,8 @@ ghost use lib.Seq.{sets};
 ghost use Rattle.usn_answers.specs.Promise.{AnswerPromise};
 ghost use Rattle.rewind.specs.Starting.{startOutcome};
 ghost use Rattle.rewind.specs.Stepping.{outcome as stepOutcome};
-ghost use Rattle.rewind.specs.Telling.{toldOutcome};
-ghost use Rattle.volume_answers.specs.Path.{resolvedWords, toldWords};
+ghost use Rattle.rewind.specs.Written.{writtenOutcome};
+ghost use Rattle.volume_answers.specs.Path.{resolvedWords, writtenWords};
 ghost use Rattle.volume_answers.specs.Rewind.{rewindWords, nextWords};
 use crate::paths::resolved_row;
 use crate::paths::told_row;
@@ -72,7 +72,7 @@ pub fn put_chain_step(step: ChainStep, out: &mut [u64]) -> u32
 // A step's answer with text, likewise.
 pub fn put_path_step(step: PathStep, out: &mut [u64]) -> u32
     requires { ⌜ 8 ≤ length (now out) ⌝ }
-    ensures { λ r. ⌜ AnswerPromise (nextWords toldWords (step .rewind)) (toldOutcome (step .next)) out r ⌝ }
+    ensures { λ r. ⌜ AnswerPromise (nextWords writtenWords (step .rewind)) (writtenOutcome (step .next)) out r ⌝ }
 {
     let rewind = step.rewind;
     let next = step.next;

@@ -11,12 +11,12 @@ use Rattle.entry_slots.specs.declared.NamePlace.{NamePlace}
 use Rattle.chain.specs.Settings.{depth}
 use Rattle.chain.specs.Chain.{Chain}
 use Rattle.chain.specs.Tracing.{tracing}
-use Rattle.path_text.specs.Decoding.{decoding}
-use Rattle.path.specs.Telling.{telling}
+use Rattle.path_text.specs.Decoding.{placeDecoding}
+use Rattle.path.specs.Written.{tracingWithText}
 
 -- a path with its text, with lent words for the answer
 abbrev pub resolveCall : List ℕ → List ℕ → List ℕ → ℕ → EntryKey → List ℕ → List ℕ → Outcome Chain
-resolveCall journal image slots used key text out = withRoom 5 (length out) (telling journal image (table slots used) depth key (length text))
+resolveCall journal image slots used key text out = withRoom 5 (length out) (tracingWithText journal image (table slots used) depth key (length text))
 
 -- and without it
 abbrev pub chainCall : List ℕ → List ℕ → List ℕ → ℕ → EntryKey → List ℕ → Outcome Chain
@@ -24,4 +24,4 @@ chainCall journal image slots used key out = withRoom 4 (length out) (tracing (l
 
 -- the text of the name at a place
 abbrev pub placeCall : List ℕ → List ℕ → NamePlace → List ℕ → List ℕ → Outcome NamePlace
-placeCall journal image place text out = withRoom 1 (length out) (decoding journal image place (length text))
+placeCall journal image place text out = withRoom 1 (length out) (placeDecoding journal image place (length text))

@@ -21,8 +21,8 @@ use Rattle.entry_slots.specs.declared.NamePlace.{NamePlace}
 use Rattle.chain.specs.Chain.{Chain, resolved}
 use Rattle.chain.specs.Tracing.{chainAfter}
 use Rattle.path_text.specs.Text.{placeText, placeLength, pathText}
-use Rattle.path.specs.Telling.{told}
-use Rattle.volume_answers.specs.Path.{resolvedWords, toldWords}
+use Rattle.path.specs.Written.{writtenPath}
+use Rattle.volume_answers.specs.Path.{resolvedWords, writtenWords}
 use Rattle.volume_history.specs.Image.{carveCall, carvedWords}
 use Rattle.volume_history.specs.Names.{decodeCall, decodedBytes}
 use Rattle.volume_history.specs.Path.{resolveCall, chainCall, placeCall}
@@ -88,4 +88,4 @@ pub record Tells (bytes words : Chain → List ℕ) (o : Outcome Chain) (list te
 abbrev pub ResolvePromise : Lent → Lent → Lent → ℕ → EntryKey → Lent → Lent → Lent → ℕ → Type 0
 ResolvePromise journal image slots used key chain text out r =
     let o = resolveCall (before journal) (before image) (before slots) used key (before text) (before out) in
-    Tells (pathText (before journal) (before image)) (λ c. toldWords (told (before journal) (before image) c)) o (before chain) (before text) (before out) r (after chain) (after text) (after out)
+    Tells (pathText (before journal) (before image)) (λ c. writtenWords (writtenPath (before journal) (before image) c)) o (before chain) (before text) (before out) r (after chain) (after text) (after out)

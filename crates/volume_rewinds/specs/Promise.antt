@@ -12,7 +12,7 @@ use Rattle.entry_slots.specs.Table.{Table}
 use Rattle.entry_slots.specs.Index.{headsLeft, nextsLeft}
 use Rattle.rewind_records.specs.Turning.{Next}
 use Rattle.rewind_steps.specs.Taking.{Step}
-use Rattle.rewind_steps.specs.Telling.{nextText}
+use Rattle.rewind_steps.specs.StepText.{nextText}
 use Rattle.rewind.specs.Starting.{Tables, firstAfter, forwardAfter}
 use Rattle.rewind.specs.Stepping as step
 use Rattle.rewind.specs.declared.Rewind.{Rewind}

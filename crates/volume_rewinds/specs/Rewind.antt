@@ -10,9 +10,9 @@ use Rattle.rewind.specs.Starting.{Tables, started, begun}
 use Rattle.rewind_records.specs.Turning.{Next}
 use Rattle.rewind_steps.specs.Taking.{Step}
 use Rattle.rewind.specs.Stepping.{stepped, rewindAfter}
-use Rattle.rewind.specs.Telling.{told, toldOf}
+use Rattle.rewind.specs.Written.{steppedWithText, writtenStep}
 use Rattle.rewind.specs.declared.Rewind.{Rewind}
-use Rattle.volume_answers.specs.Path.{resolvedWords, toldWords}
+use Rattle.volume_answers.specs.Path.{resolvedWords, writtenWords}
 use Rattle.volume_answers.specs.Rewind.{rewindWords, nextWords}
 
 -- a state, from its numbers
@@ -35,7 +35,7 @@ abbrev pub chainStepWords : Step → List ℕ
 chainStepWords x = resolvedWords (resolved (x .chain))
 
 abbrev pub pathStepWords : List ℕ → List ℕ → Step → List ℕ
-pathStepWords journal image x = toldWords (toldOf journal image x)
+pathStepWords journal image x = writtenWords (writtenStep journal image x)
 
 -- a step without text, from a state, with lent words for the forward table and for the answer
 abbrev pub chainStepCall : List ℕ → List ℕ → List ℕ → Rewind → List ℕ → List ℕ → Outcome (Next Step)
@@ -43,4 +43,4 @@ chainStepCall journal image records r forward out = withRoom 7 (length out) (ste
 
 -- and with it
 abbrev pub pathStepCall : List ℕ → List ℕ → List ℕ → Rewind → List ℕ → List ℕ → List ℕ → Outcome (Next Step)
-pathStepCall journal image records r forward text out = withRoom 8 (length out) (told journal image records forward r (length text))
+pathStepCall journal image records r forward text out = withRoom 8 (length out) (steppedWithText journal image records forward r (length text))

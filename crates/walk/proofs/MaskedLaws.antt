@@ -10,7 +10,7 @@ use lib.Seq.{getD-append-add, ext-getD}
 use lib.Dec.{ltb}
 use borrow.Author.Tests.{ltb-true, ltb-false}
 use Rattle.walk.specs.Lists.{All}
-use Rattle.walk.specs.Walk.{Visit, stop, go, after, walk}
+use Rattle.walk.specs.Walk.{Visit, stop, go, goingOn, walk}
 use Rattle.walk.specs.Masked.{Within, Apart, Masked, placesOf}
 use Rattle.walk.specs.declared.Place.{Place}
 use Rattle.walk.proofs.WalkLaws.{Finds, all-append}
@@ -47,8 +47,8 @@ module _ {A : Type 0} (s t : List ℕ) (places : A → List Place) (visit visit�
     (forward : (o p : ℕ) (es : List A) → visit o ≡ go es p → o ≤ p)
     (before : (o : ℕ) → Before places (visit o))
     (reads : (k o : ℕ) → Fine (walk visit (suc k) o) → Same s t (placesOf places (walk visit (suc k) o)) o → (visit′ o ≡ visit o) × Finds P (visit o)) where
-  turn : (o : ℕ) (v : Visit A) (f g : ℕ → List A) → visit o ≡ v → Before places v → Finds P v → Fine (after v f) → Same s t (placesOf places (after v f)) o
-      → ((p : ℕ) → Fine (f p) → Same s t (placesOf places (f p)) p → (g p ≡ f p) × All P (f p)) → (after v g ≡ after v f) × All P (after v f)
+  turn : (o : ℕ) (v : Visit A) (f g : ℕ → List A) → visit o ≡ v → Before places v → Finds P v → Fine (goingOn v f) → Same s t (placesOf places (goingOn v f)) o
+      → ((p : ℕ) → Fine (f p) → Same s t (placesOf places (f p)) p → (g p ≡ f p) × All P (f p)) → (goingOn v g ≡ goingOn v f) × All P (goingOn v f)
   turn o stop f g e b w fi m ih = (refl, tt)
   turn o (go es p) f g e b w fi m ih =
       let r = ih p (fine es (f p) fi)

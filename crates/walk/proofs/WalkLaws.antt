@@ -6,7 +6,7 @@ use native.Mathlib.Omega.{arith}
 use native.Mathlib.Nat.{mul-zero, mul-add}
 use lib.ListN.{length, length-append}
 use Rattle.walk.specs.Lists.{All}
-use Rattle.walk.specs.Walk.{Visit, stop, go, after, walk, from}
+use Rattle.walk.specs.Walk.{Visit, stop, go, goingOn, walk, from}
 
 -- a visit at o stops, or lies below bound and goes forward
 abbrev pub Forward : {A : Type 0} → ℕ → ℕ → Visit A → Type 0
@@ -20,12 +20,12 @@ Costs g top o (go es p) = (o + g * length es ≤ p) × (p ≤ top)
 
 module _ {A : Type 0} where
   -- what comes after a visit is asked only at the next offset, which lies further on
-  pub after-agree : (bound o : ℕ) (f g : ℕ → List A) (v : Visit A) → Forward bound o v → ((p : ℕ) → o < p → f p ≡ g p) → after v f ≡ after v g
+  pub after-agree : (bound o : ℕ) (f g : ℕ → List A) (v : Visit A) → Forward bound o v → ((p : ℕ) → o < p → f p ≡ g p) → goingOn v f ≡ goingOn v g
   after-agree bound o f g stop w h = refl
   after-agree bound o f g (go es p) w h = ap (λ (l : List A). es ++ l) (h p (w .1))
 
   -- a visit at bound or above stops
-  after-end : (bound o : ℕ) (f : ℕ → List A) (v : Visit A) → Forward bound o v → bound ≤ o → after v f ≡ []
+  after-end : (bound o : ℕ) (f : ℕ → List A) (v : Visit A) → Forward bound o v → bound ≤ o → goingOn v f ≡ []
   after-end bound o f stop w h = refl
   after-end bound o f (go es p) w h = absurd (omega arith)
 
@@ -41,7 +41,7 @@ module _ {A : Type 0} (visit : ℕ → Visit A) (bound : ℕ) (forward : (o : �
       (λ p h. walk-enough j k p (omega arith) (omega arith))
 
   -- one visit, and then the rest
-  pub from-step : (o : ℕ) → from visit bound o ≡ after (visit o) (from visit bound)
+  pub from-step : (o : ℕ) → from visit bound o ≡ goingOn (visit o) (from visit bound)
   unfolding from walk
   from-step o =
       walk-enough (bound - o) (suc (bound - o)) o (omega arith) (omega arith)
@@ -54,7 +54,7 @@ Left visit bound o stop = from visit bound o ≡ []
 Left visit bound o (go es p) = (from visit bound o ≡ es ++ from visit bound p) × (o < bound) × (o < p)
 
 module _ {A : Type 0} (visit : ℕ → Visit A) (bound : ℕ) (forward : (o : ℕ) → Forward bound o (visit o)) where
-  left-by : (o : ℕ) (v : Visit A) → from visit bound o ≡ after v (from visit bound) → Forward bound o v → Left visit bound o v
+  left-by : (o : ℕ) (v : Visit A) → from visit bound o ≡ goingOn v (from visit bound) → Forward bound o v → Left visit bound o v
   left-by o stop e w = e
   left-by o (go es p) e w = (e, w .0, w .1)
 
@@ -62,7 +62,7 @@ module _ {A : Type 0} (visit : ℕ → Visit A) (bound : ℕ) (forward : (o : �
   left o v e = left-by o v (rw e (from-step visit bound forward o)) (rw e (forward o))
 
 module _ {A : Type 0} (visit : ℕ → Visit A) (g top : ℕ) (costs : (o : ℕ) → Costs g top o (visit o)) where
-  after-bound : (o : ℕ) (f : ℕ → List A) (v : Visit A) → Costs g top o v → o ≤ top → ((p : ℕ) → p ≤ top → p + g * length (f p) ≤ top) → o + g * length (after v f) ≤ top
+  after-bound : (o : ℕ) (f : ℕ → List A) (v : Visit A) → Costs g top o v → o ≤ top → ((p : ℕ) → p ≤ top → p + g * length (f p) ≤ top) → o + g * length (goingOn v f) ≤ top
   after-bound o f stop w ho h = simp mul-zero (omega arith)
   after-bound o f (go es p) w ho h = simp (length-append, mul-add) (omega (arith, h p (w .1)))
 
@@ -77,7 +77,7 @@ Stays G stop = Unit {0}
 Stays G (go es p) = G p
 
 module _ {A : Type 0} (visit visit′ : ℕ → Visit A) (G : ℕ → Type 0) (agree : (o : ℕ) → G o → visit o ≡ visit′ o) (stays : (o : ℕ) → G o → Stays G (visit o)) where
-  after-along : (f g : ℕ → List A) (v : Visit A) → Stays G v → ((p : ℕ) → G p → f p ≡ g p) → after v f ≡ after v g
+  after-along : (f g : ℕ → List A) (v : Visit A) → Stays G v → ((p : ℕ) → G p → f p ≡ g p) → goingOn v f ≡ goingOn v g
   after-along f g stop w h = refl
   after-along f g (go es p) w h = ap (λ (l : List A). es ++ l) (h p w)
 
@@ -86,7 +86,7 @@ module _ {A : Type 0} (visit visit′ : ℕ → Visit A) (G : ℕ → Type 0) (a
   walk-along zero o x = refl
   walk-along (suc k) o x =
       after-along (walk visit k) (walk visit′ k) (visit o) (stays o x) (walk-along k)
-      ∙ ap (λ (v : Visit A). after v (walk visit′ k)) (agree o x)
+      ∙ ap (λ (v : Visit A). goingOn v (walk visit′ k)) (agree o x)
 
 -- what holds of all that any visit finds holds of all that a walk finds
 abbrev pub Finds : {A : Type 0} → (A → Type 0) → Visit A → Type 0
@@ -98,7 +98,7 @@ module _ {A : Type 0} (P : A → Type 0) where
   all-append [] ys h k = k
   all-append (x ∷ xs) ys h k = (h .0, all-append xs ys (h .1) k)
 
-  after-all : (f : ℕ → List A) (v : Visit A) → Finds P v → ((p : ℕ) → All P (f p)) → All P (after v f)
+  after-all : (f : ℕ → List A) (v : Visit A) → Finds P v → ((p : ℕ) → All P (f p)) → All P (goingOn v f)
   after-all f stop w h = tt
   after-all f (go es p) w h = all-append es (f p) w (h p)
 

@@ -8,14 +8,14 @@ pub data Visit (A : Type 0) : Type 0 where
   go : List A → ℕ → Visit A
 
 -- what a visit found, and then what comes after it
-abbrev pub after : {A : Type 0} → Visit A → (ℕ → List A) → List A
-after stop f = []
-after (go es p) f = es ++ f p
+abbrev pub goingOn : {A : Type 0} → Visit A → (ℕ → List A) → List A
+goingOn stop f = []
+goingOn (go es p) f = es ++ f p
 
 -- what at most k visits find, from o on
 unfoldable pub walk : {A : Type 0} → (ℕ → Visit A) → ℕ → ℕ → List A
 walk visit zero o = []
-walk visit (suc k) o = after (visit o) (walk visit k)
+walk visit (suc k) o = goingOn (visit o) (walk visit k)
 
 -- all that the visits from o on find, where a visit goes forward and only below bound
 unfoldable pub from : {A : Type 0} → (ℕ → Visit A) → ℕ → ℕ → List A

@@ -8,7 +8,7 @@ use borrow.Author.Tests.{lt-ltb, le-ltb, eq-eqb, ne-eqb, ltb-false, eqb-true}
 use Rattle.walk.specs.Places.{round8}
 use Rattle.walk.specs.Refusals.{aboveDomain, badState, badBuffer}
 use Rattle.walk.proofs.ChoiceLaws.{cond-cases, or-left, or-right}
-use Rattle.window_numbers.specs.Numbers.{windowSize, streamDomain, windowEnd, Numbers, wrongEnd, wrongNumbers, refusalOf}
+use Rattle.window_numbers.specs.Numbers.{windowSize, streamDomain, windowEnd, Numbers, wrongEnd, wrongNumbers, numbersRefusal}
 
 module _ (start end total : ℕ) where
   pub right-end : end ≡ windowEnd start total → false ≡ wrongEnd start end total
@@ -28,55 +28,55 @@ module _ (start end total : ℕ) where
   above-total h = sym (other-end (λ e. omega arith) (λ e. omega arith))
 
 module _ (w : Numbers) (n : ℕ) where
-  pub refused-total : streamDomain < w .total → aboveDomain ≡ refusalOf w n
-  unfolding refusalOf
+  pub refused-total : streamDomain < w .total → aboveDomain ≡ numbersRefusal w n
+  unfolding numbersRefusal
   refused-total h = simp (lt-ltb _ _ h)
 
   module _ (a : w .total ≤ streamDomain) where
-    pub refused-buffer : (n ≡ windowSize → ⊥) → badBuffer ≡ refusalOf w n
-    unfolding refusalOf
+    pub refused-buffer : (n ≡ windowSize → ⊥) → badBuffer ≡ numbersRefusal w n
+    unfolding numbersRefusal
     refused-buffer h = simp (le-ltb _ _ a, ne-eqb _ _ h)
 
     module _ (b : n ≡ windowSize) where
-      wrong : wrongNumbers w ≡ true → badState ≡ refusalOf w n
-      unfolding refusalOf
+      wrong : wrongNumbers w ≡ true → badState ≡ numbersRefusal w n
+      unfolding numbersRefusal
       wrong h = simp (le-ltb _ _ a, eq-eqb _ _ b, h)
 
-      pub refused-above : w .total < w .end → badState ≡ refusalOf w n
+      pub refused-above : w .total < w .end → badState ≡ numbersRefusal w n
       unfolding wrongNumbers
       refused-above h = wrong (simp (above-total (w .start) (w .end) (w .total) h))
 
-      pub refused-end : wrongEnd (w .start) (w .end) (w .total) ≡ true → badState ≡ refusalOf w n
+      pub refused-end : wrongEnd (w .start) (w .end) (w .total) ≡ true → badState ≡ numbersRefusal w n
       unfolding wrongNumbers
       refused-end h = wrong (simp h)
 
       module _ (d : wrongEnd (w .start) (w .end) (w .total) ≡ false) where
-        pub refused-start : (w .start % 8 ≡ 0 → ⊥) → badState ≡ refusalOf w n
+        pub refused-start : (w .start % 8 ≡ 0 → ⊥) → badState ≡ numbersRefusal w n
         unfolding wrongNumbers
         refused-start h = wrong (simp (d, ne-eqb _ _ h))
 
         module _ (e : w .start % 8 ≡ 0) where
-          pub refused-position : (w .position % 8 ≡ 0 → ⊥) → badState ≡ refusalOf w n
+          pub refused-position : (w .position % 8 ≡ 0 → ⊥) → badState ≡ numbersRefusal w n
           unfolding wrongNumbers
           refused-position h = wrong (simp (d, eq-eqb _ _ e, ne-eqb _ _ h))
 
           module _ (f : w .position % 8 ≡ 0) where
-            pub refused-before : w .position < w .start → badState ≡ refusalOf w n
+            pub refused-before : w .position < w .start → badState ≡ numbersRefusal w n
             unfolding wrongNumbers
             refused-before h = wrong (simp (d, eq-eqb _ _ e, eq-eqb _ _ f, lt-ltb _ _ h))
 
             module _ (g : w .start ≤ w .position) where
-              pub refused-after : round8 (w .end) < w .position → badState ≡ refusalOf w n
+              pub refused-after : round8 (w .end) < w .position → badState ≡ numbersRefusal w n
               unfolding wrongNumbers
               refused-after h = wrong (simp (d, eq-eqb _ _ e, eq-eqb _ _ f, le-ltb _ _ g, lt-ltb _ _ h))
 
               module _ (k : w .position ≤ round8 (w .end)) where
-                pub refused-held : w .end < w .start + w .held → badState ≡ refusalOf w n
+                pub refused-held : w .end < w .start + w .held → badState ≡ numbersRefusal w n
                 unfolding wrongNumbers
                 refused-held h = wrong (simp (d, eq-eqb _ _ e, eq-eqb _ _ f, le-ltb _ _ g, le-ltb _ _ k, lt-ltb _ _ h))
 
-                pub not-refused : w .start + w .held ≤ w .end → 0 ≡ refusalOf w n
-                unfolding refusalOf wrongNumbers
+                pub not-refused : w .start + w .held ≤ w .end → 0 ≡ numbersRefusal w n
+                unfolding numbersRefusal wrongNumbers
                 not-refused h = simp (le-ltb _ _ a, eq-eqb _ _ b, d, eq-eqb _ _ e, eq-eqb _ _ f, le-ltb _ _ g, le-ltb _ _ k, le-ltb _ _ h)
 
 -- what numbers that are not refused are like
@@ -97,8 +97,8 @@ not-eq a b e = eqb-true a b (flip (eqb a b) e)
     flip true e = refl
     flip false e = absurd (true≢false e)
 
-pub sound-of : (w : Numbers) (n : ℕ) → refusalOf w n ≡ 0 → Sound w n
-unfolding refusalOf wrongNumbers
+pub sound-of : (w : Numbers) (n : ℕ) → numbersRefusal w n ≡ 0 → Sound w n
+unfolding numbersRefusal wrongNumbers
 sound-of w n =
     let P : ℕ → Type 0 = λ r. r ≡ 0 → Sound w n in
     let a = wrongEnd (w .start) (w .end) (w .total) in
@@ -128,7 +128,7 @@ sound-of w n =
     (λ _ z. absurd (omega arith))
 
 -- the same of a refusal k that was computed
-pub sound : (w : Numbers) (n : ℕ) {k : ℕ} → k ≡ refusalOf w n → k ≡ 0 → Sound w n
+pub sound : (w : Numbers) (n : ℕ) {k : ℕ} → k ≡ numbersRefusal w n → k ≡ 0 → Sound w n
 sound w n e z = sound-of w n (sym e ∙ z)
 
 -- the end of a sound window: that of its start, or 0

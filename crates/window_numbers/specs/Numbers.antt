@@ -47,8 +47,8 @@ wrongNumbers w =
     || ltb (w .end) (w .start + w .held)
 
 -- the refusal of a call with a buffer of n bytes, or 0
-unfoldable pub refusalOf : Numbers → ℕ → ℕ
-refusalOf w n =
+unfoldable pub numbersRefusal : Numbers → ℕ → ℕ
+numbersRefusal w n =
     cond (ltb streamDomain (w .total)) aboveDomain
     (cond (eqb n windowSize)
     (cond (wrongNumbers w) badState 0)

@@ -2,7 +2,7 @@
 //
 // Every function here is proved. No function has a `requires`: any numbers get an answer.
 ghost use mathlib.Core.Path.{_≡_};
-ghost use Rattle.window_numbers.specs.Numbers.{windowEnd, wrongEnd, numbersOf, refusalOf};
+ghost use Rattle.window_numbers.specs.Numbers.{windowEnd, wrongEnd, numbersOf, numbersRefusal};
 
 // The bytes of a window, and the length of the buffer that is lent for it.
 pub const WINDOW_SIZE: usize = 65536;
@@ -18,7 +18,7 @@ pub fn refusal(
     total: usize,
     buffer_length: usize,
 ) -> u32
-    ensures { λ r. ⌜ r ≡ refusalOf (numbersOf start position end held total) «buffer_length» ⌝ }
+    ensures { λ r. ⌜ r ≡ numbersRefusal (numbersOf start position end held total) «buffer_length» ⌝ }
 {
     if STREAM_DOMAIN < total {
         return walk::ABOVE_DOMAIN;

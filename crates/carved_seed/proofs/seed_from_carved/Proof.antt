@@ -88,7 +88,7 @@ use Rattle.carved_seed.proofs.room.test_room as room-test
 use Rattle.carved_seed.proofs.room.test_room.Symbol as room-test-def
 use Rattle.carved_seed.proofs.room.test_room.Symbol.{name as #room-test}
 use Rattle.carved_seed.proofs.room.test_room.Met as room-test-thm
-use Rattle.carved_seed.proofs.on as on
+use Rattle.carved_seed.proofs.on
 use Rattle.carved_seed.proofs.on.Symbol as on-def
 use Rattle.carved_seed.proofs.on.Symbol.{name as #on}
 use Rattle.carved_seed.proofs.on.Met as on-thm

@@ -63,7 +63,7 @@ use Rattle.carved_seed.proofs.NameLaws.{Testing, testing-start, testing
 use Rattle.carved_seed.proofs.Called.{calls-plain, calls-plain-last}
 use Rattle.carved_seed.proofs.Values.{vals, mach, val, Good, GoodC, typed, typed-c}
 use Rattle.carved_seed.proofs.Callees.{On, to-on, goes-on}
-use Rattle.carved_seed.proofs.on as on
+use Rattle.carved_seed.proofs.on
 use Rattle.carved_seed.proofs.on.Symbol as on-def
 use Rattle.carved_seed.proofs.on.Symbol.{name as #on}
 use Rattle.carved_seed.proofs.on.Met as on-thm

@@ -1,7 +1,7 @@
 -- The whole way of the key, and then the places of its names.
 use mathlib.Core.Path.{ap, _∙_}
 use native.Mathlib.Omega.{arith}
-use Rattle.chain.specs.Tracing.{listed}
+use Rattle.chain.specs.Tracing.{withPlaces}
 use Rattle.chain.proofs.WayLaws.{none-climbs, climbed-resolved, climbed-places, climbed-slots}
 use borrow.Author.Needs.{needs}
 use Rattle.chain.proofs.way.list_chain.Statement.{statement}
@@ -29,7 +29,7 @@ same-length : tie.Need-same-length
 same-length c = search needs
 
 returns : tie.Need-returns
-returns c = (c .resolved .ensures ∙ climbed-resolved _ _ (c .before .before .before .before .before .before .before .climb .ensures), c .before .before .before .list-places .ensures ∙ ap (listed (c .before .before .before .before .before .before .before .before .before .before .before .before .args .list .now)) (climbed-places _ _ (c .before .before .before .before .before .before .before .climb .ensures)))
+returns c = (c .resolved .ensures ∙ climbed-resolved _ _ (c .before .before .before .before .before .before .before .climb .ensures), c .before .before .before .list-places .ensures ∙ ap (withPlaces (c .before .before .before .before .before .before .before .before .before .before .before .before .args .list .now)) (climbed-places _ _ (c .before .before .before .before .before .before .before .climb .ensures)))
 
 pub list-chain-spec : {M : Type 1} → statement M
 list-chain-spec =

@@ -5,14 +5,14 @@ use native.Mathlib.Omega.{arith}
 use borrow.Author.Needs.{needs}
 use Rattle.walk.proofs.ListLaws.{Writing, writing-start, writing-skip, writing-room, writing-row}
 use Rattle.chain.specs.Chain.{sourceWords}
-use Rattle.chain.specs.Way.{placesOf}
+use Rattle.chain.specs.Way.{wayPlaces}
 use Rattle.chain.proofs.PlaceLaws.{place-row, listed-none, listed-all}
 use Rattle.chain.proofs.WayLaws.{places-count, places-less, places-none}
 use Rattle.chain.proofs.way.list_places.Statement.{statement}
 use Rattle.chain.proofs.way.list_places.Tie as tie
 
 abbrev Inv-loop : tie.InvT-loop
-Inv-loop slots way names list₀ left₀ i₀ list left i = Writing sourceWords 3 list₀ list i (placesOf slots way left) (placesOf slots way names) × (left ≤ names)
+Inv-loop slots way names list₀ left₀ i₀ list left i = Writing sourceWords 3 list₀ list i (wayPlaces slots way left) (wayPlaces slots way names) × (left ≤ names)
 
 abbrev μ-loop : tie.MeasureT-loop
 μ-loop slots way names list₀ left₀ i₀ list left i = left

@@ -3,13 +3,13 @@ use Prim.Native.Nat.{_-_}
 use native.Mathlib.Omega.{arith}
 use borrow.Author.Tests.{not-true, not-false}
 use Rattle.entry_slots.specs.Names.{lengths, inside}
-use Rattle.entry_slots.specs.Slots.{nameAt}
+use Rattle.entry_slots.specs.Slots.{slotName}
 use Rattle.entry_slots.proofs.NameLaws.{Passing, passing-start, passing-row, passing-outside, passing-end}
 use Rattle.entry_slots.proofs.names.all_inside.Statement.{statement}
 use Rattle.entry_slots.proofs.names.all_inside.Tie as tie
 
 abbrev Inv-loop : tie.InvT-loop
-Inv-loop slots used journal-length image-length i₀ i = Passing (inside (lengths journal-length image-length)) (nameAt slots) i used
+Inv-loop slots used journal-length image-length i₀ i = Passing (inside (lengths journal-length image-length)) (slotName slots) i used
 
 abbrev μ-loop : tie.MeasureT-loop
 μ-loop slots used journal-length image-length i₀ i = used - i

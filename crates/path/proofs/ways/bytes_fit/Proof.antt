@@ -4,7 +4,7 @@ use mathlib.Core.Path.{_≡_, ap}
 use native.Mathlib.Omega.{arith}
 use borrow.Author.Needs.{needs}
 use Rattle.entry_slots.specs.declared.EntryInfo.{EntryInfo}
-use Rattle.chain.specs.Way.{placesOf, chainBy}
+use Rattle.chain.specs.Way.{wayPlaces, chainBy}
 use lib.ListN.{length}
 use Rattle.path_text.specs.Text.{namesText, placeText, pathText}
 use Rattle.path_text.proofs.NameLaws.{place-least}
@@ -13,7 +13,7 @@ use Rattle.path.proofs.ways.bytes_fit.Statement.{statement}
 use Rattle.path.proofs.ways.bytes_fit.Tie as tie
 
 abbrev Inv-loop : tie.InvT-loop
-Inv-loop journal image slots way room ending spare₀ left₀ spare left = (ending + length (namesText journal image (placesOf slots way left₀)) + spare ≡ length (namesText journal image (placesOf slots way left)) + room) × ((left ≤ left₀) × (spare ≤ room))
+Inv-loop journal image slots way room ending spare₀ left₀ spare left = (ending + length (namesText journal image (wayPlaces slots way left₀)) + spare ≡ length (namesText journal image (wayPlaces slots way left)) + room) × ((left ≤ left₀) × (spare ≤ room))
 
 abbrev μ-loop : tie.MeasureT-loop
 μ-loop journal image slots way room ending spare₀ left₀ spare left = left

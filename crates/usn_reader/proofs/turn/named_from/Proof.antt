@@ -1,6 +1,6 @@
 -- The record with its name's place.
 use borrow.Author.Needs.{needs}
-use Rattle.usn_reader.proofs.TurnLaws.{named}
+use Rattle.usn_reader.proofs.TurnLaws.{renamed}
 use Rattle.usn_reader.proofs.turn.named_from.Statement.{statement}
 use Rattle.usn_reader.proofs.turn.named_from.Tie as tie
 
@@ -8,7 +8,7 @@ place-from-requires : tie.Need-place-from-requires
 place-from-requires c κs = search needs
 
 returns : tie.Need-returns
-returns c = named _ _ (c .place-from .ensures)
+returns c = renamed _ _ (c .place-from .ensures)
 
 pub named-from-spec : {M : Type 1} → statement M
 named-from-spec = tie.close (tie.spec place-from-requires returns)

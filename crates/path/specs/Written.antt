@@ -15,18 +15,18 @@ use Rattle.path_text.specs.Text.{pathText}
 use Rattle.path_text.specs.Decoding.{withText}
 
 -- the chain of a key, with its text
-abbrev pub telling : List ℕ → List ℕ → Table → ℕ → EntryKey → ℕ → Outcome Chain
-telling journal image t depth k room = withText (pathText journal image) room (tracing (lengthsOf journal image) t depth k)
+abbrev pub tracingWithText : List ℕ → List ℕ → Table → ℕ → EntryKey → ℕ → Outcome Chain
+tracingWithText journal image t depth k room = withText (pathText journal image) room (tracing (lengthsOf journal image) t depth k)
 
 -- what a path with text says: its names and its end, and how many bytes its text takes
-pub record Told : Type 0 where
+pub record WrittenPath : Type 0 where
   pub path : ResolvedPath
   pub text : ℕ
 
-abbrev pub told : List ℕ → List ℕ → Chain → Told
-told journal image c = record { path = resolved c; text = length (pathText journal image c) }
+abbrev pub writtenPath : List ℕ → List ℕ → Chain → WrittenPath
+writtenPath journal image c = record { path = resolved c; text = length (pathText journal image c) }
 
 -- what the call's answer says
-abbrev pub outcome : PathAnswer → Outcome Told
+abbrev pub outcome : PathAnswer → Outcome WrittenPath
 outcome (Path p n) = answered (record { path = p; text = n })
 outcome (Refused n) = refused n

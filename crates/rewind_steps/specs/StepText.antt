@@ -21,5 +21,5 @@ nextText journal image ended = []
 nextText journal image (next x) = recordText journal image x
 
 -- the part of a step after its record is in the table: its text
-abbrev pub telling : List ℕ → List ℕ → Table → EntryKey → NamePlace → ℕ → Outcome (Next Step)
-telling journal image u parent name room = withText (nextText journal image) room (answered (next (stepWith depth parent name u)))
+abbrev pub stepWithText : List ℕ → List ℕ → Table → EntryKey → NamePlace → ℕ → Outcome (Next Step)
+stepWithText journal image u parent name room = withText (nextText journal image) room (answered (next (stepWith depth parent name u)))
