@@ -7,7 +7,7 @@
  * of the answer stay as they were. The tests that refuse run in the order in which the paragraph lists them.
  *
  * What a caller owes: each pointer is aligned for its type and valid over its count, and what a call writes to overlaps no other
- * slice of that call. Slices that are only read may overlap. Hand an empty slice over as a pointer to any object and the count 0.
+ * slice of that call. Slices that are only read may overlap. An empty slice is the count 0 with any pointer, NULL too.
  * For everything else, any bytes and any numbers, the result is defined, and no call keeps state or a pointer after it returns, so
  * calls on different memory may run in different threads.
  *

@@ -20,6 +20,8 @@ mod sum;
 mod table;
 mod texts;
 
+#[path = "../../bindings/rust/src/declared.rs"]
+mod declared;
 #[allow(dead_code)] // the differential test uses more of these files
 #[path = "../../tests/differential/src/error.rs"]
 mod error;

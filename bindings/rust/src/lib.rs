@@ -33,6 +33,7 @@
 
 mod calls;
 pub mod carve;
+mod declared;
 pub mod error;
 pub mod rewind;
 mod table;

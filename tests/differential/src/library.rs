@@ -1,8 +1,9 @@
-//! The calls of our library, `libusn_journal_reader.a` and `libvolume_history.a`. Nothing checks these declarations
-//! against its source.
+//! The calls of our library that read a journal, carve an image and decode a name, over slices.
 //!
 //! Each call answers 0 and writes the words of its answer, or answers a refusal number and writes nothing. Slices pass
 //! as a pointer and a length. The calls ask nothing of their arguments, so the wrappers are safe for any slices.
+
+use crate::declared;
 
 /// The words of a record, in this order. Signed fields are given by their 64 bits.
 pub const FIELDS: [&str; 19] = [
@@ -106,80 +107,6 @@ pub const BAD_NUMBERS: u32 = 9;
 pub const TOO_MANY_BYTES: u32 = 10;
 pub const BAD_BUFFER: u32 = 11;
 pub const NOT_LISTED: u32 = 12;
-
-mod declared {
-    extern "C" {
-        pub fn usn_parse_record_v2(data: *const u8, data_len: usize, words: *mut u64, words_len: usize) -> u32;
-
-        pub fn usn_parse_record_v3(data: *const u8, data_len: usize, words: *mut u64, words_len: usize) -> u32;
-
-        pub fn usn_listed_record(
-            data: *const u8,
-            data_len: usize,
-            offset: usize,
-            words: *mut u64,
-            words_len: usize,
-        ) -> u32;
-
-        pub fn usn_parse_journal(
-            extract: *const u8,
-            extract_len: usize,
-            list: *mut usize,
-            list_len: usize,
-            out: *mut u64,
-            out_len: usize,
-        ) -> u32;
-
-        pub fn usn_carve_records(
-            extract: *const u8,
-            extract_len: usize,
-            list: *mut usize,
-            list_len: usize,
-            out: *mut u64,
-            out_len: usize,
-        ) -> u32;
-
-        pub fn usn_reader_new(total: u64, reader: *mut u64, reader_len: usize) -> u32;
-
-        pub fn usn_reader_next(
-            reader: *mut u64,
-            reader_len: usize,
-            buffer: *const u8,
-            buffer_len: usize,
-            out: *mut u64,
-            out_len: usize,
-        ) -> u32;
-
-        pub fn usn_reader_give(
-            reader: *mut u64,
-            reader_len: usize,
-            buffer: *mut u8,
-            buffer_len: usize,
-            bytes: *const u8,
-            bytes_len: usize,
-            out: *mut u64,
-            out_len: usize,
-        ) -> u32;
-
-        pub fn mft_carve_entries(
-            image: *const u8,
-            image_len: usize,
-            list: *mut u64,
-            list_len: usize,
-            out: *mut u64,
-            out_len: usize,
-        ) -> u32;
-
-        pub fn utf16_decode(
-            bytes: *const u8,
-            bytes_len: usize,
-            text: *mut u8,
-            text_len: usize,
-            out: *mut u64,
-            out_len: usize,
-        ) -> u32;
-    }
-}
 
 /// The version 2 record that `data` begins with.
 pub fn usn_parse_record_v2(data: &[u8], words: &mut [u64]) -> u32 {

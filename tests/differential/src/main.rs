@@ -4,6 +4,8 @@
 //! `crate::`, so they stand at the crate root with the stand-ins for what they lack: `error`, `usn`, and the crates
 //! `chrono` and `safe_read`.
 
+#[path = "../../../bindings/rust/src/declared.rs"]
+mod declared;
 mod difference;
 mod error;
 #[cfg(fuzzing)]

@@ -1,8 +1,9 @@
-//! The calls of our library on tables and paths, `libvolume_history.a`. Nothing checks these declarations against its
-//! source.
+//! The calls of our library on tables and paths, over slices.
 //!
 //! As everywhere, a call answers 0 and writes the words of its answer, or answers a refusal number and writes nothing.
 //! The calls ask nothing of their arguments, so the wrappers are safe for any slices.
+
+use crate::declared::{self, CarvedMftEntry, Seeded};
 
 /// The words of a table's slot, in this order. The source is 0 for the journal and any other number for the image.
 pub const SLOT_FIELDS: [&str; 7] = [
@@ -52,165 +53,6 @@ pub struct Slots<'a> {
 /// A key, and a name's place, as the words that a call takes.
 pub type Key = [u64; 2];
 pub type Place = [u64; PLACE_WORDS];
-
-/// A carved entry as the image carver's own struct has it.
-#[repr(C)]
-#[derive(Debug, Clone, Copy)]
-pub struct CarvedEntry {
-    pub offset: usize,
-    pub entry_number: u64,
-    pub sequence_number: u16,
-    pub filename_offset: usize,
-    pub filename_length: usize,
-    pub parent_entry: u64,
-    pub parent_sequence: u16,
-    pub is_directory: bool,
-    pub is_in_use: bool,
-}
-
-/// What seeding from such entries answers: the used slots, and 0 or the number of a refusal.
-#[repr(C)]
-#[derive(Debug, Clone, Copy)]
-pub struct Seeded {
-    pub used: usize,
-    pub refusal: u32,
-}
-
-mod declared {
-    use super::{CarvedEntry, Seeded};
-
-    extern "C" {
-        pub fn table_insert(
-            journal: *const u8,
-            journal_len: usize,
-            image: *const u8,
-            image_len: usize,
-            slots: *mut u64,
-            slots_len: usize,
-            used: usize,
-            entry: u64,
-            sequence: u64,
-            parent_entry: u64,
-            parent_sequence: u64,
-            source: u64,
-            offset: u64,
-            length: u64,
-            out: *mut u64,
-            out_len: usize,
-        ) -> u32;
-
-        pub fn table_insert_if_absent(
-            journal: *const u8,
-            journal_len: usize,
-            image: *const u8,
-            image_len: usize,
-            slots: *mut u64,
-            slots_len: usize,
-            used: usize,
-            entry: u64,
-            sequence: u64,
-            parent_entry: u64,
-            parent_sequence: u64,
-            source: u64,
-            offset: u64,
-            length: u64,
-            out: *mut u64,
-            out_len: usize,
-        ) -> u32;
-
-        pub fn table_seed(
-            journal: *const u8,
-            journal_len: usize,
-            image: *const u8,
-            image_len: usize,
-            slots: *mut u64,
-            slots_len: usize,
-            used: usize,
-            entries: *const u64,
-            entries_len: usize,
-            out: *mut u64,
-            out_len: usize,
-        ) -> u32;
-
-        pub fn table_seed_indexed(
-            journal: *const u8,
-            journal_len: usize,
-            image: *const u8,
-            image_len: usize,
-            slots: *mut u64,
-            slots_len: usize,
-            used: usize,
-            entries: *const u64,
-            entries_len: usize,
-            heads: *mut u64,
-            heads_len: usize,
-            nexts: *mut u64,
-            nexts_len: usize,
-            out: *mut u64,
-            out_len: usize,
-        ) -> u32;
-
-        pub fn table_seed_entries(
-            journal: *const u8,
-            journal_len: usize,
-            image: *const u8,
-            image_len: usize,
-            slots: *mut u64,
-            slots_len: usize,
-            used: usize,
-            entries: *const CarvedEntry,
-            entries_len: usize,
-        ) -> Seeded;
-
-        pub fn path_resolve(
-            journal: *const u8,
-            journal_len: usize,
-            image: *const u8,
-            image_len: usize,
-            slots: *const u64,
-            slots_len: usize,
-            used: usize,
-            entry: u64,
-            sequence: u64,
-            chain: *mut u64,
-            chain_len: usize,
-            text: *mut u8,
-            text_len: usize,
-            out: *mut u64,
-            out_len: usize,
-        ) -> u32;
-
-        pub fn path_chain(
-            journal: *const u8,
-            journal_len: usize,
-            image: *const u8,
-            image_len: usize,
-            slots: *const u64,
-            slots_len: usize,
-            used: usize,
-            entry: u64,
-            sequence: u64,
-            chain: *mut u64,
-            chain_len: usize,
-            out: *mut u64,
-            out_len: usize,
-        ) -> u32;
-
-        pub fn path_decode(
-            journal: *const u8,
-            journal_len: usize,
-            image: *const u8,
-            image_len: usize,
-            source: u64,
-            offset: u64,
-            length: u64,
-            text: *mut u8,
-            text_len: usize,
-            out: *mut u64,
-            out_len: usize,
-        ) -> u32;
-    }
-}
 
 /// The entry of these words under its key, in place of a known one; `out` takes the `TABLE_FIELDS`.
 pub fn table_insert(names: Sources, slots: &mut [u64], used: usize, slot: &[u64; SLOT_WORDS], out: &mut [u64]) -> u32 {
@@ -322,8 +164,8 @@ pub fn table_seed_indexed(
 }
 
 /// The same from entries as structs.
-pub fn table_seed_entries(names: Sources, slots: &mut [u64], used: usize, entries: &[CarvedEntry]) -> Seeded {
-    // SAFETY: as above; the struct has the layout of the library's.
+pub fn table_seed_entries(names: Sources, slots: &mut [u64], used: usize, entries: &[CarvedMftEntry]) -> Seeded {
+    // SAFETY: as above.
     unsafe {
         declared::table_seed_entries(
             names.journal.as_ptr(),

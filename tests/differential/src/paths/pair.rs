@@ -4,11 +4,12 @@
 use super::index::{sizes, Index};
 use super::library::{
     path_chain, path_resolve, table_insert, table_insert_if_absent, table_seed, table_seed_entries, table_seed_indexed,
-    CarvedEntry, Key, Slots, Sources, CHAIN_WORDS, PATH_FIELDS, SLOT_FIELDS, SLOT_WORDS, TABLE_FIELDS,
+    Key, Slots, Sources, CHAIN_WORDS, PATH_FIELDS, SLOT_FIELDS, SLOT_WORDS, TABLE_FIELDS,
 };
 use super::lists::{word_against, Lists, Room, Written};
 use super::model::{self, bytes_at, carved, key, parent, place, Chain, Slot, Table};
 use crate::carve::CarvedMftEntry;
+use crate::declared::{self, Place};
 use crate::difference::Finding;
 use crate::lent::{beginning, untouched, BEHIND};
 use crate::library::{ACCEPTED, ENTRY_WORDS, NO_ROOM, TEXT_TOO_SMALL};
@@ -209,10 +210,10 @@ impl<'a> Pair<'a> {
         let Added::Listed { entries, .. } = added else {
             return None;
         };
-        let structs: Vec<CarvedEntry> = entries
+        let structs: Vec<declared::CarvedMftEntry> = entries
             .chunks_exact(ENTRY_WORDS)
             .map(as_struct)
-            .collect::<Option<Vec<CarvedEntry>>>()?;
+            .collect::<Option<Vec<declared::CarvedMftEntry>>>()?;
         let mut slots = self.slots.clone();
         let seeded = table_seed_entries(given.names, &mut slots[..self.model.words.len()], given.used, &structs);
         let answer = match seeded.refusal {
@@ -428,13 +429,15 @@ fn shown(table: &model::Table, used: usize) -> String {
 }
 
 /// A carved entry's words as the struct, where its sequences have 16 bits.
-fn as_struct(words: &[u64]) -> Option<CarvedEntry> {
-    Some(CarvedEntry {
+fn as_struct(words: &[u64]) -> Option<declared::CarvedMftEntry> {
+    Some(declared::CarvedMftEntry {
         offset: words[0] as usize,
         entry_number: words[1],
         sequence_number: words[2].try_into().ok()?,
-        filename_offset: words[3] as usize,
-        filename_length: words[4] as usize,
+        filename: Place {
+            offset: words[3] as usize,
+            length: words[4] as usize,
+        },
         parent_entry: words[5],
         parent_sequence: words[6].try_into().ok()?,
         is_directory: words[7] != 0,

@@ -1,9 +1,9 @@
-//! The calls of our library that rewind a journal, `libvolume_history.a`. Nothing checks these declarations against its
-//! source.
+//! The calls of our library that rewind a journal, over slices.
 //!
 //! As everywhere, a call answers 0 and writes the words of its answer, or answers a refusal number and writes nothing.
 //! The calls ask nothing of their arguments, so the wrappers are safe for any slices.
 
+use crate::declared;
 use crate::paths::library::Sources;
 
 /// The words of a start's answer, the state that it begins.
@@ -44,105 +44,6 @@ pub const RUN_WORDS: usize = RUN_FIELDS.len();
 pub struct State {
     pub used: usize,
     pub position: usize,
-}
-
-mod declared {
-    extern "C" {
-        pub fn rewind_start(
-            journal: *const u8,
-            journal_len: usize,
-            image: *const u8,
-            image_len: usize,
-            records: *const usize,
-            records_len: usize,
-            slots: *mut u64,
-            slots_len: usize,
-            used: usize,
-            forward: *mut u64,
-            forward_len: usize,
-            out: *mut u64,
-            out_len: usize,
-        ) -> u32;
-
-        pub fn rewind_start_indexed(
-            journal: *const u8,
-            journal_len: usize,
-            image: *const u8,
-            image_len: usize,
-            records: *const usize,
-            records_len: usize,
-            slots: *mut u64,
-            slots_len: usize,
-            used: usize,
-            forward: *mut u64,
-            forward_len: usize,
-            heads: *mut u64,
-            heads_len: usize,
-            nexts: *mut u64,
-            nexts_len: usize,
-            out: *mut u64,
-            out_len: usize,
-        ) -> u32;
-
-        pub fn rewind_next(
-            journal: *const u8,
-            journal_len: usize,
-            image: *const u8,
-            image_len: usize,
-            records: *const usize,
-            records_len: usize,
-            used: usize,
-            position: usize,
-            forward: *mut u64,
-            forward_len: usize,
-            chain: *mut u64,
-            chain_len: usize,
-            text: *mut u8,
-            text_len: usize,
-            out: *mut u64,
-            out_len: usize,
-        ) -> u32;
-
-        pub fn rewind_run(
-            journal: *const u8,
-            journal_len: usize,
-            image: *const u8,
-            image_len: usize,
-            records: *const usize,
-            records_len: usize,
-            used: usize,
-            position: usize,
-            forward: *mut u64,
-            forward_len: usize,
-            heads: *mut u64,
-            heads_len: usize,
-            nexts: *mut u64,
-            nexts_len: usize,
-            ends: *mut u64,
-            ends_len: usize,
-            text: *mut u8,
-            text_len: usize,
-            out: *mut u64,
-            out_len: usize,
-        ) -> u32;
-
-        pub fn rewind_next_chain(
-            journal: *const u8,
-            journal_len: usize,
-            image: *const u8,
-            image_len: usize,
-            records: *const usize,
-            records_len: usize,
-            used: usize,
-            position: usize,
-            forward: *mut u64,
-            forward_len: usize,
-            chain: *mut u64,
-            chain_len: usize,
-            out: *mut u64,
-            out_len: usize,
-        ) -> u32;
-    }
 }
 
 /// The start of a rewind over listed records, two words each: they go into the table of `slots`, which is copied to the
