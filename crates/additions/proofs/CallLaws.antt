@@ -9,14 +9,14 @@ use borrow.Author.Tests.{ltb-true, ltb-false, not-false}
 use lib.ListN.{length}
 use lib.Dec.{ltb}
 use Rattle.walk.specs.Lists.{every}
-use Rattle.walk.specs.Outcome.{Outcome, refused, answered}
+use Rattle.walk.specs.Outcome.{Outcome, refused, answered, andThen}
 use Rattle.walk.specs.Refusals.{badState, nameOutside, tableFull}
 use Rattle.walk.proofs.ChoiceLaws.{cond-cases, and-left, and-right}
 use Rattle.entry_slots.specs.Names.{Lengths, lengthsOf, inside, allInside}
 use Rattle.entry_slots.specs.Slots.{slotsIn, sameKey}
 use Rattle.entry_slots.specs.Table.{Table, entered, lookup, known, Addition, addition, add}
 use Rattle.additions.specs.Storing.{addAll, newKeys, keysOf, namesOf, adding, storing, inserting}
-use Rattle.additions.specs.InTurn.{andThen, inTurn}
+use Rattle.additions.specs.InTurn.{inTurn}
 use Rattle.entry_slots.specs.declared.EntryKey.{EntryKey}
 use Rattle.entry_slots.specs.declared.EntryInfo.{EntryInfo}
 use Rattle.additions.proofs.StoringLaws.{adding-one, stored-inside}

@@ -1,14 +1,9 @@
 -- Entries stored by one call after the other, which storing them all by one call is compared with.
 use mathlib.Core.List.{List, [], _∷_}
-use Rattle.walk.specs.Outcome.{Outcome, refused, answered}
+use Rattle.walk.specs.Outcome.{Outcome, answered, andThen}
 use Rattle.entry_slots.specs.Names.{Lengths}
 use Rattle.entry_slots.specs.Table.{Table, Addition}
 use Rattle.additions.specs.Storing.{storing}
-
--- what comes after an answer; a refusal stays
-abbrev pub andThen : {A B : Type 0} → Outcome A → (A → Outcome B) → Outcome B
-andThen (refused n) f = refused n
-andThen (answered x) f = f x
 
 -- a call for each entry, up to the first that is refused
 unfoldable pub inTurn : Lengths → Table → List Addition → Outcome Table

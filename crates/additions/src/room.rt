@@ -9,13 +9,13 @@ ghost use Rattle.additions.specs.Storing.{seen, newIn, fits};
 ghost use Rattle.additions.specs.Carved.{carvedIn};
 ghost use Rattle.additions.specs.Walking.{walkedBack};
 ghost use Rattle.additions.specs.Sources.{sources, sourceKey, sourcesIn};
-use crate::carved::ROW;
 use crate::carved::carved_key;
 use crate::entries::entry_from_last;
 use entry_slots::EntryKey;
 use entry_slots::slots::Found;
 use entry_slots::slots::find;
 use entry_slots::slots::same_key;
+use mft_carver::ENTRY_WORDS;
 
 // Whether so many slots are enough for those that are used and the new keys of carved entries.
 pub fn carved_fit(entries: &[u64], slots: &[u64], used: usize, room: usize) -> bool
@@ -57,7 +57,7 @@ fn has_room(
     if room < used {
         return false;
     }
-    if records.len() / 2 + entries.len() / ROW <= room - used {
+    if records.len() / 2 + entries.len() / ENTRY_WORDS <= room - used {
         return true;
     }
     new_keys(journal, records, entries, slots, used) <= room - used
@@ -68,7 +68,7 @@ fn new_keys(journal: &[u8], records: &[usize], entries: &[u64], slots: &[u64], u
     requires { ⌜ used * stride ≤ length (now slots) ⌝ }
     ensures { λ r. ⌜ r ≡ newIn (table (now (slots .entry)) used) (sourcesIn (now (journal .entry)) (now (records .entry)) (now (entries .entry))) ⌝ }
 {
-    let count = records.len() / 2 + entries.len() / ROW;
+    let count = records.len() / 2 + entries.len() / ENTRY_WORDS;
     let mut n: usize = 0;
     let mut i: usize = 0;
     while i < count {

@@ -9,9 +9,9 @@ ghost use Rattle.entry_slots.specs.Index.{Indexed};
 ghost use Rattle.entry_table.specs.Promise.{AddCarvedPromise};
 use crate::Stored;
 use crate::adding::add_by;
-use additions::carved::ROW;
 use additions::carved::carved_info;
 use additions::carved::carved_key;
+use mft_carver::ENTRY_WORDS;
 
 // Every carved entry, in turn, where its key is new. The caller has seen to it that there is room, so that no addition is
 // refused.
@@ -26,7 +26,7 @@ pub(crate) fn add_carved(
     requires { ⌜ Indexed (table (now slots) used) (now heads) (now nexts) × (0 < length (now heads) → slotsIn (now slots) ≤ length (now nexts)) ⌝ }
     ensures { λ r. ⌜ AddCarvedPromise slots used entries heads nexts r ⌝ }
 {
-    let count = entries.len() / ROW;
+    let count = entries.len() / ENTRY_WORDS;
     let mut now_used = used;
     let mut i: usize = 0;
     while i < count {

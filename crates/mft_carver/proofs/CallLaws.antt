@@ -6,7 +6,7 @@ use lib.ListN.{length}
 use borrow.Author.Tests.{lt-ltb, le-ltb}
 use Rattle.walk.specs.Outcome.{refused, answered}
 use Rattle.walk.specs.Refusals.{aboveDomain, listFull, domain}
-use Rattle.mft_carver.specs.Settings.{Settings}
+use Rattle.mft_carver.specs.declared.Settings.{Settings}
 use Rattle.mft_carver.specs.Carve.{events, carving, entriesIn, statsIn, stride}
 use Rattle.mft_carver.specs.Promise.{Carves, Fills}
 use Rattle.mft_carver.specs.declared.MftCarving.the-variants.{Carved, Refused}

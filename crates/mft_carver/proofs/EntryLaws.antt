@@ -10,7 +10,7 @@ use borrow.Author.Tests.{lt-ltb, le-ltb, ne-eqb}
 use Rattle.walk.specs.Places.{placeFrom}
 use Rattle.walk.specs.declared.Place.{Place}
 use Rattle.usn_record.specs.Bytes.{leAt}
-use Rattle.mft_carver.specs.Settings.{Settings}
+use Rattle.mft_carver.specs.declared.Settings.{Settings}
 use Rattle.mft_attributes.specs.Attributes.{fixed, filenameIn}
 use Rattle.mft_carver.specs.Entry.{hasSignature, entryHeaderOf, entryOf, Event, rejected, carved, byName, judged}
 use Rattle.mft_carver.specs.declared.CarvedMftEntry.{CarvedMftEntry}
@@ -50,15 +50,15 @@ module _ (st : Settings) (o : ℕ) (e : List ℕ) {n : ℕ} (f : n ≡ leAt 2 e 
   never-used h = simp (sym f, h)
 
   module _ (i : n ≡ 0 → ⊥) {a : ℕ} (g : a ≡ leAt 2 e 20) where
-    pub first-below : a < st .firstLow → rejected o ≡ judged st o e
+    pub first-below : a < st .«first_low» → rejected o ≡ judged st o e
     unfolding judged
     first-below h = simp (sym f, ne-eqb _ _ i, sym g, lt-ltb _ _ h)
 
-    pub first-above : st .firstLow ≤ a → st .firstHigh < a → rejected o ≡ judged st o e
+    pub first-above : st .«first_low» ≤ a → st .«first_high» < a → rejected o ≡ judged st o e
     unfolding judged
     first-above h k = simp (sym f, ne-eqb _ _ i, sym g, le-ltb _ _ h, lt-ltb _ _ k)
 
-    module _ (h : st .firstLow ≤ a) (k : a ≤ st .firstHigh) {x y : Kept} (l : x ≡ filenameIn (st .walked) e a) (m : x ≡ y) where
+    module _ (h : st .«first_low» ≤ a) (k : a ≤ st .«first_high») {x y : Kept} (l : x ≡ filenameIn (st .walked) e a) (m : x ≡ y) where
       by-kept : byName o (entryHeaderOf e) y ≡ judged st o e
       unfolding judged
       by-kept = rw (← m, l) (simp (sym f, ne-eqb _ _ i, sym g, le-ltb _ _ h, le-ltb _ _ k))

@@ -10,7 +10,7 @@ use lib.Seq.{sets}
 use Rattle.walk.specs.Walk.{go}
 use Rattle.walk.proofs.ListLaws.{Writing, writing-start, writing-skip, writing-room, writing-row, writing-end}
 use Rattle.walk.proofs.WalkLaws.{Left}
-use Rattle.mft_carver.specs.Settings.{Settings}
+use Rattle.mft_carver.specs.declared.Settings.{Settings}
 use Rattle.mft_carver.specs.Entry.{Event, rejected, carved}
 use Rattle.mft_carver.specs.Carve.{imageVisit, eventsFrom, events, entries, rejections, statsOf, entriesIn, statsIn, stride, flag, entryWords}
 use Rattle.mft_carver.specs.Promise.{Fills}

@@ -20,7 +20,7 @@ use Rattle.walk.proofs.MaskedLaws.{apart-append, places-append, Same, Before, w
 use Rattle.walk.proofs.WalkLaws.{Forward}
 use Rattle.usn_record.specs.Bytes.{leAt}
 use Rattle.usn_record.proofs.ByteLaws.{read-agree}
-use Rattle.mft_carver.specs.Settings.{Settings}
+use Rattle.mft_carver.specs.declared.Settings.{Settings}
 use Rattle.mft_attributes.specs.Attributes.{fixed, filenameIn}
 use Rattle.mft_carver.specs.Entry.{hasSignature, EntryHeader, entryHeaderOf, badHeader, entryOf, Event, rejected, carved, byName, judged}
 use Rattle.mft_carver.specs.Carve.{entryBytes, eventsAt, imageVisit, events, entries, entriesIn, carving, carvingList}

@@ -12,7 +12,7 @@ use Rattle.walk.specs.Walk.{Visit, stop, go, from}
 use Rattle.walk.proofs.AgreeLaws.{part-lent}
 use Rattle.walk.proofs.ChoiceLaws.{cond-cases}
 use Rattle.walk.proofs.WalkLaws.{Forward, Costs, walk-bound, Left, left}
-use Rattle.mft_carver.specs.Settings.{Settings, settingsOf}
+use Rattle.mft_carver.specs.declared.Settings.{Settings}
 use Rattle.mft_carver.specs.Entry.{hasSignature, Event, rejected, carved, judged}
 use Rattle.mft_carver.specs.Carve.{entryBytes, eventsAt, imageVisit, events, entries, rejections, entriesIn}
 use Rattle.mft_carver.specs.Step.{eventOf, imageVisitOf}
@@ -38,11 +38,9 @@ module _ (st : Settings) (s : List ℕ) (o : ℕ) where
     unfolding imageVisit
     candidate k i = rw i (simp (le-ltb _ _ h, sym (part-lent s o (st .size)), sym f ∙ k))
 
--- a candidate's tests do not ask for the size of entries
-pub event-of : (m size low high walked o : ℕ) (e : List ℕ) {r x : Candidate} → r ≡ x → eventOf o r ≡ judged (settingsOf m low high walked) o e
-    → eventOf o x ≡ judged (settingsOf size low high walked) o e
-unfolding judged
-event-of m size low high walked o e g f = ap (eventOf o) (sym g) ∙ f
+-- a candidate by what its answer says
+pub event-of : (st : Settings) (o : ℕ) (e : List ℕ) {r x : Candidate} → r ≡ x → eventOf o r ≡ judged st o e → eventOf o x ≡ judged st o e
+event-of st o e g f = ap (eventOf o) (sym g) ∙ f
 
 -- every candidate that is met is carved or rejected
 pub candidates-add-up : (es : List Event) → length es ≡ length (entries es) + rejections es

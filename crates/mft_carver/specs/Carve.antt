@@ -9,7 +9,7 @@ use Rattle.walk.specs.Lists.{flatten, listAfter}
 use Rattle.walk.specs.Places.{part}
 use Rattle.walk.specs.Refusals.{aboveDomain, listFull, domain}
 use Rattle.walk.specs.Walk.{Visit, stop, go, from}
-use Rattle.mft_carver.specs.Settings.{Settings}
+use Rattle.mft_carver.specs.declared.Settings.{Settings}
 use Rattle.mft_carver.specs.Entry.{hasSignature, Event, rejected, carved, judged}
 use Rattle.mft_carver.specs.declared.CarvedMftEntry.{CarvedMftEntry}
 use Rattle.mft_carver.specs.declared.MftCarving.{MftCarving}

@@ -5,7 +5,7 @@ use mathlib.Core.Bool.{Bool, true, cond, _&&_, _||_}
 use lib.Dec.{ltb, eqb}
 use Rattle.walk.specs.Places.{placeFrom}
 use Rattle.usn_record.specs.Bytes.{leAt}
-use Rattle.mft_carver.specs.Settings.{Settings}
+use Rattle.mft_carver.specs.declared.Settings.{Settings}
 use Rattle.mft_attributes.specs.Attributes.{filenameIn}
 use Rattle.mft_carver.specs.declared.CarvedMftEntry.{CarvedMftEntry}
 use Rattle.mft_attributes.specs.declared.filename.Filename.{Filename}
@@ -45,7 +45,7 @@ isDirectory flags = eqb (flags / 2 % 2) 1
 
 -- the header of no entry: it was never used, or its first attribute lies outside the limits
 abbrev pub badHeader : Settings → EntryHeader → Bool
-badHeader st h = eqb (h .sequence) 0 || ltb (h .first) (st .firstLow) || ltb (st .firstHigh) (h .first)
+badHeader st h = eqb (h .sequence) 0 || ltb (h .first) (st .«first_low») || ltb (st .«first_high») (h .first)
 
 -- the entry at o of an image, with this header and name
 abbrev pub entryOf : ℕ → EntryHeader → Filename → CarvedMftEntry

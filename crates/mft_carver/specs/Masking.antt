@@ -4,7 +4,7 @@ use mathlib.Core.List.{List, [], _∷_}
 use Rattle.walk.specs.Masked.{placesOf}
 use Rattle.walk.specs.Outcome.{listedBy}
 use Rattle.walk.specs.declared.Place.{Place}
-use Rattle.mft_carver.specs.Settings.{Settings}
+use Rattle.mft_carver.specs.declared.Settings.{Settings}
 use Rattle.mft_carver.specs.Carve.{entriesIn, carving}
 use Rattle.mft_carver.specs.declared.CarvedMftEntry.{CarvedMftEntry}
 

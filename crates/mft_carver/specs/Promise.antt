@@ -6,7 +6,7 @@ use lib.ListN.{length}
 use Rattle.walk.specs.Lent.{Lent, before, after}
 use Rattle.walk.specs.Lists.{flatten, overwrite}
 use Rattle.walk.specs.Refusals.{domain}
-use Rattle.mft_carver.specs.Settings.{Settings}
+use Rattle.mft_carver.specs.declared.Settings.{Settings}
 use Rattle.mft_carver.specs.Carve.{outcome, carving, carvingList, entriesIn, statsIn, stride, entryWords}
 use Rattle.mft_carver.specs.declared.MftCarving.{MftCarving}
 use Rattle.mft_carver.specs.declared.MftCarvingStats.{MftCarvingStats}

@@ -3,10 +3,10 @@ ghost use mathlib.Core.Path.{_≡_};
 ghost use Prim.Native.Nat.{_+_, _≤_};
 ghost use lib.ListN.{length};
 ghost use Rattle.walk.specs.Refusals.{domain};
-ghost use Rattle.mft_carver.specs.Settings.{settingsOf};
 ghost use Rattle.mft_carver.specs.Entry.{hasSignature, judged};
 ghost use Rattle.mft_carver.specs.Step.{eventOf};
 use crate::CarvedMftEntry;
+use crate::Settings;
 use mft_attributes::attributes::best_filename;
 use mft_attributes::filename::Filename;
 use mft_attributes::filename::Kept;
@@ -39,28 +39,22 @@ pub(crate) fn has_signature(entry: &[u8]) -> bool
 }
 
 // The candidate that stands at an offset of an image.
-pub(crate) fn try_carve_entry(
-    entry: &[u8],
-    offset: usize,
-    low: usize,
-    high: usize,
-    walked: usize,
-) -> Candidate
+pub(crate) fn try_carve_entry(entry: &[u8], offset: usize, settings: Settings) -> Candidate
     requires { ⌜ offset + length (now entry) ≤ domain ⌝ }
-    ensures { λ r. ⌜ eventOf offset r ≡ judged (settingsOf (length (now (entry .entry))) low high walked) offset (now (entry .entry)) ⌝ }
+    ensures { λ r. ⌜ eventOf offset r ≡ judged settings offset (now (entry .entry)) ⌝ }
 {
     let sequence = le_u16(entry, 16);
     if sequence == 0 {
         return Candidate::Rejected;
     }
     let first = le_u16(entry, 20) as usize;
-    if first < low {
+    if first < settings.first_low {
         return Candidate::Rejected;
     }
-    if high < first {
+    if settings.first_high < first {
         return Candidate::Rejected;
     }
-    match best_filename(entry, first, walked) {
+    match best_filename(entry, first, settings.walked) {
         Kept::Nothing => Candidate::Rejected,
         Kept::Name(name) => {
             let flags = le_u16(entry, 22);

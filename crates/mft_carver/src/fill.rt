@@ -5,46 +5,37 @@ ghost use Prim.Native.Nat.{_≤_};
 ghost use lib.ListN.{length};
 ghost use lib.Dec.{leb};
 ghost use Rattle.walk.specs.Refusals.{domain};
-ghost use Rattle.mft_carver.specs.Settings.{settingsOf};
 ghost use Rattle.mft_carver.specs.Carve.{statsOf, entriesIn, entryWords};
 ghost use Rattle.mft_carver.specs.Promise.{FillAsks, FillPromise};
 use crate::CarvedMftEntry;
+use crate::ENTRY_WORDS;
 use crate::MftCarvingStats;
+use crate::Settings;
 use crate::step::CarveStep;
 use crate::step::carve_step;
 use walk::put_words;
 
-// The words of an entry in a list.
-pub const ENTRY_WORDS: usize = 9;
-
 // Whether the entries to be carved are no more than room. None is counted where room is enough for an image of that length full
 // of entries.
-pub(crate) fn has_room(
-    image: &[u8],
-    room: usize,
-    size: usize,
-    low: usize,
-    high: usize,
-    walked: usize,
-) -> bool
-    requires { ⌜ (1 ≤ size) × (length (now image) ≤ domain) ⌝ }
-    ensures { λ r. ⌜ r ≡ leb (length (entriesIn (settingsOf size low high walked) (now (image .entry)))) room ⌝ }
+pub(crate) fn has_room(image: &[u8], room: usize, settings: Settings) -> bool
+    requires { ⌜ (1 ≤ settings .size) × (length (now image) ≤ domain) ⌝ }
+    ensures { λ r. ⌜ r ≡ leb (length (entriesIn settings (now (image .entry)))) room ⌝ }
 {
-    if image.len() / size <= room {
+    if image.len() / settings.size <= room {
         return true;
     }
-    count_entries(image, size, low, high, walked) <= room
+    count_entries(image, settings) <= room
 }
 
 // How many entries are carved.
-fn count_entries(image: &[u8], size: usize, low: usize, high: usize, walked: usize) -> usize
-    requires { ⌜ (1 ≤ size) × (length (now image) ≤ domain) ⌝ }
-    ensures { λ r. ⌜ r ≡ length (entriesIn (settingsOf size low high walked) (now (image .entry))) ⌝ }
+fn count_entries(image: &[u8], settings: Settings) -> usize
+    requires { ⌜ (1 ≤ settings .size) × (length (now image) ≤ domain) ⌝ }
+    ensures { λ r. ⌜ r ≡ length (entriesIn settings (now (image .entry))) ⌝ }
 {
     let mut n: usize = 0;
     let mut o: usize = 0;
     loop {
-        match carve_step(image, o, size, low, high, walked) {
+        match carve_step(image, o, settings) {
             CarveStep::Stop => return n,
             CarveStep::Move(next) | CarveStep::Rejected(next) => o = next,
             CarveStep::Carved(_, next) => {
@@ -56,21 +47,14 @@ fn count_entries(image: &[u8], size: usize, low: usize, high: usize, walked: usi
 }
 
 // The carved entries into the list, and the counters of the run.
-pub(crate) fn fill_list(
-    image: &[u8],
-    list: &mut [u64],
-    size: usize,
-    low: usize,
-    high: usize,
-    walked: usize,
-) -> MftCarvingStats
-    requires { ⌜ FillAsks (settingsOf size low high walked) (now image) (now list) ⌝ }
-    ensures { λ r. ⌜ FillPromise (settingsOf size low high walked) image list r ⌝ }
+pub(crate) fn fill_list(image: &[u8], list: &mut [u64], settings: Settings) -> MftCarvingStats
+    requires { ⌜ FillAsks settings (now image) (now list) ⌝ }
+    ensures { λ r. ⌜ FillPromise settings image list r ⌝ }
 {
     let mut stats = nothing_met(image.len());
     let mut o: usize = 0;
     loop {
-        match carve_step(image, o, size, low, high, walked) {
+        match carve_step(image, o, settings) {
             CarveStep::Stop => return stats,
             CarveStep::Move(next) => o = next,
             CarveStep::Rejected(next) => {

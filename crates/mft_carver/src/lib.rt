@@ -7,9 +7,8 @@ mod fill;
 mod step;
 
 ghost use Prim.Native.Nat.{_≤_};
-ghost use Rattle.mft_carver.specs.Settings.{standard, settingsOf};
+ghost use Rattle.mft_carver.specs.Settings.{standard};
 ghost use Rattle.mft_carver.specs.Promise.{CarvePromise};
-use crate::fill::ENTRY_WORDS;
 use crate::fill::fill_list;
 use crate::fill::has_room;
 use walk::ABOVE_DOMAIN;
@@ -25,6 +24,20 @@ const FIRST_ATTR_LOW: usize = 48;
 const FIRST_ATTR_HIGH: usize = 1015;
 // The most attributes that are walked before giving up.
 const MAX_ATTR_WALK: usize = 20;
+
+// The words of an entry in a list.
+pub const ENTRY_WORDS: usize = 9;
+
+// The limits that carving goes by.
+pub struct Settings {
+    // The bytes of an entry; entries are looked for so far apart.
+    pub size: usize,
+    // The least and the greatest offset of an entry's first attribute.
+    pub first_low: usize,
+    pub first_high: usize,
+    // The most attributes that are walked in an entry.
+    pub walked: usize,
+}
 
 // A carved MFT entry.
 #[repr(C)]
@@ -64,33 +77,25 @@ pub enum MftCarving {
 pub fn carve_mft_entries(image: &[u8], list: &mut [u64]) -> MftCarving
     ensures { λ r. ⌜ CarvePromise standard image list r ⌝ }
 {
-    carve(
-        image,
-        list,
-        MFT_ENTRY_SIZE,
-        FIRST_ATTR_LOW,
-        FIRST_ATTR_HIGH,
-        MAX_ATTR_WALK,
-    )
+    let standard = Settings {
+        size: MFT_ENTRY_SIZE,
+        first_low: FIRST_ATTR_LOW,
+        first_high: FIRST_ATTR_HIGH,
+        walked: MAX_ATTR_WALK,
+    };
+    carve(image, list, standard)
 }
 
-// Carving of entries of any size above 0, with their first attribute between low and high, of which so many are walked.
-fn carve(
-    image: &[u8],
-    list: &mut [u64],
-    size: usize,
-    low: usize,
-    high: usize,
-    walked: usize,
-) -> MftCarving
-    requires { ⌜ 1 ≤ size ⌝ }
-    ensures { λ r. ⌜ CarvePromise (settingsOf size low high walked) image list r ⌝ }
+// Carving with any limits, of entries of any size above 0.
+fn carve(image: &[u8], list: &mut [u64], settings: Settings) -> MftCarving
+    requires { ⌜ 1 ≤ settings .size ⌝ }
+    ensures { λ r. ⌜ CarvePromise settings image list r ⌝ }
 {
     if DOMAIN < image.len() {
         return MftCarving::Refused(ABOVE_DOMAIN);
     }
-    if has_room(image, list.len() / ENTRY_WORDS, size, low, high, walked) {
-        MftCarving::Carved(fill_list(image, list, size, low, high, walked))
+    if has_room(image, list.len() / ENTRY_WORDS, settings) {
+        MftCarving::Carved(fill_list(image, list, settings))
     } else {
         MftCarving::Refused(LIST_FULL)
     }

@@ -3,10 +3,10 @@ ghost use mathlib.Core.Path.{_≡_};
 ghost use Prim.Native.Nat.{_≤_};
 ghost use lib.ListN.{length};
 ghost use Rattle.walk.specs.Refusals.{domain};
-ghost use Rattle.mft_carver.specs.Settings.{settingsOf};
 ghost use Rattle.mft_carver.specs.Carve.{imageVisit};
 ghost use Rattle.mft_carver.specs.Step.{imageVisitOf};
 use crate::CarvedMftEntry;
+use crate::Settings;
 use crate::entry::Candidate;
 use crate::entry::has_signature;
 use crate::entry::try_carve_entry;
@@ -21,18 +21,12 @@ pub enum CarveStep {
 }
 
 // The visit of offset o.
-pub(crate) fn carve_step(
-    image: &[u8],
-    o: usize,
-    size: usize,
-    low: usize,
-    high: usize,
-    walked: usize,
-) -> CarveStep
-    requires { ⌜ (1 ≤ size) × (length (now image) ≤ domain) ⌝ }
-    ensures { λ r. ⌜ imageVisitOf o r ≡ imageVisit (settingsOf size low high walked) (now (image .entry)) o ⌝ }
+pub(crate) fn carve_step(image: &[u8], o: usize, settings: Settings) -> CarveStep
+    requires { ⌜ (1 ≤ settings .size) × (length (now image) ≤ domain) ⌝ }
+    ensures { λ r. ⌜ imageVisitOf o r ≡ imageVisit settings (now (image .entry)) o ⌝ }
 {
     let end = image.len();
+    let size = settings.size;
     if end < size {
         return CarveStep::Stop;
     }
@@ -42,7 +36,7 @@ pub(crate) fn carve_step(
     let next = o + size;
     let entry = &image[o..next];
     if has_signature(entry) {
-        match try_carve_entry(entry, o, low, high, walked) {
+        match try_carve_entry(entry, o, settings) {
             Candidate::Rejected => CarveStep::Rejected(next),
             Candidate::Carved(carved) => CarveStep::Carved(carved, next),
         }

@@ -13,7 +13,7 @@ use Rattle.walk.specs.declared.Place.{Place}
 use Rattle.walk.proofs.WalkLaws.{Finds, walk-all}
 use Rattle.usn_record.specs.Bytes.{leAt}
 use Rattle.usn_record.specs.Layout.{layoutOf}
-use Rattle.usn_record.specs.Record.{maxRecord, parsed, recordOf, listed}
+use Rattle.usn_record.specs.Record.{parsed, recordOf, listed}
 use Rattle.usn_record.proofs.ListedLaws.{WholeRecord, whole-parsed, whole-listed}
 use Rattle.usn_carver.specs.Settings.{Settings}
 use Rattle.usn_carver.specs.Events.{Event, rejected, carved, records}
@@ -42,7 +42,7 @@ pub record IsRecord (s : List ℕ) (p : Place) : Type 0 where
   pub inside : p .offset + p .length ≤ length s
   pub accepted : listed s (p .offset) ≡ answered (recordOf (layoutOf (leAt 2 s (p .offset + 4))) (part s (p .offset) (p .length)))
 
-module _ (st : Settings) (s : List ℕ) (most : st .largest ≤ maxRecord) where
+module _ (st : Settings) (s : List ℕ) where
   -- a candidate is a whole record of its version
   candidate-whole : {o v n : ℕ} → Candidate st s o v n → WholeRecord s o n
   candidate-whole k =
@@ -50,7 +50,7 @@ module _ (st : Settings) (s : List ℕ) (most : st .largest ≤ maxRecord) where
         size = k .size;
         inside = k .inside;
         fixed = rw (← k .version) (k .whole);
-        most = omega (arith, k .most);
+        most = k .most;
         version = rw (← k .version) (k .known);
       }
 

@@ -44,7 +44,7 @@ module _ (st : Settings) where
   unfolding carverVisitAs
   as-reads {s} {t} l k f o long size =
       rw (long, size)
-      (cond-two (Reads s t o) (isCandidate st l (length s) o (leAt 4 s o)) {y = go [] (o + 8)} {y′ = go [] (o + 8)}
+      (cond-two (Reads s t o) (isCandidate l (length s) o (leAt 4 s o)) {y = go [] (o + 8)} {y′ = go [] (o + 8)}
       (λ _ a.
       let b : Agree s t o (o + l .fixed) = agree-in o (o + l .fixed) a (omega arith) (omega (arith, judged-reach l o (candidateHeaderAt l s o))) in
       let offset : candidateHeaderAt l t o .nameOffset ≡ candidateHeaderAt l s o .nameOffset = read-agree 2 (o + l .nameOffset) b (omega arith) (omega (arith, k .nameOffset)) in

@@ -13,6 +13,7 @@ use Rattle.walk.specs.Places.{round8}
 use Rattle.walk.specs.Walk.{Visit, stop, go}
 use Rattle.walk.proofs.ChoiceLaws.{cond-cases, and-left, and-right}
 use Rattle.usn_record.specs.Bytes.{leAt}
+use Rattle.usn_record.specs.Record.{maxRecord}
 use Rattle.usn_record.specs.Layout.{Layout, v2, v3}
 use Rattle.usn_record.specs.Names.{fixedOf}
 use Rattle.usn_carver.specs.Settings.{Settings}
@@ -26,16 +27,16 @@ module _ (st : Settings) (l : Layout) (s : List ℕ) (o : ℕ) {n : ℕ} (e : n 
   unfolding carverVisitAs
   passed-short h = simp (sym e, lt-leb _ _ h)
 
-  pub passed-large : l .fixed ≤ n → st .largest < n → go [] (o + 8) ≡ carverVisitAs st l s o
+  pub passed-large : l .fixed ≤ n → maxRecord < n → go [] (o + 8) ≡ carverVisitAs st l s o
   unfolding carverVisitAs
   passed-large a h = simp (sym e, le-leb _ _ a, lt-leb _ _ h)
 
-  pub passed-cut : l .fixed ≤ n → n ≤ st .largest → length s < o + n → go [] (o + 8) ≡ carverVisitAs st l s o
+  pub passed-cut : l .fixed ≤ n → n ≤ maxRecord → length s < o + n → go [] (o + 8) ≡ carverVisitAs st l s o
   unfolding carverVisitAs
   passed-cut a b h = simp (sym e, le-leb _ _ a, le-leb _ _ b, lt-leb _ _ h)
 
   -- past those the tests of the name and of the time decide
-  module _ (a : l .fixed ≤ n) (b : n ≤ st .largest) (d : o + n ≤ length s)
+  module _ (a : l .fixed ≤ n) (b : n ≤ maxRecord) (d : o + n ≤ length s)
       {offset size : ℕ} (f : offset ≡ candidateHeaderAt l s o .nameOffset) (g : size ≡ candidateHeaderAt l s o .nameLength)
       {x : Bool} (h : x ≡ badName (l .fixed) n offset size) where
     pub rejected-structure : x ≡ true → go (rejected structure o (l .major) ∷ []) (o + 8) ≡ carverVisitAs st l s o
@@ -82,7 +83,7 @@ pub record Candidate (st : Settings) (s : List ℕ) (o v n : ℕ) : Type 0 where
   pub version : v ≡ leAt 2 s (o + 4)
   pub size : n ≡ leAt 4 s o
   pub whole : fixedOf v ≤ n
-  pub most : n ≤ st .largest
+  pub most : n ≤ maxRecord
   pub inside : o + n ≤ length s
 
 -- what any visit of o is like
@@ -106,8 +107,8 @@ module _ (st : Settings) (s : List ℕ) (o : ℕ) (a : o + 8 ≤ length s) where
   as-shape l known version fixed =
       let n = leAt 4 s o in
       let low = leb (l .fixed) n in
-      let most = leb n (st .largest) in
-      cond-cases (CandidateShape st s o) (isCandidate st l (length s) o n)
+      let most = leb n maxRecord in
+      cond-cases (CandidateShape st s o) (isCandidate l (length s) o n)
       (λ e.
       judged-shape l (candidateHeaderAt l s o)
       (record {

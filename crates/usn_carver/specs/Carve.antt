@@ -16,6 +16,7 @@ use Rattle.walk.specs.Walk.{Visit, stop, go, from}
 use Rattle.walk.specs.declared.Place.{Place}
 use Rattle.usn_record.specs.Bytes.{leAt}
 use Rattle.usn_record.specs.Layout.{Layout, v2, v3}
+use Rattle.usn_record.specs.Record.{maxRecord}
 use Rattle.usn_carver.specs.Settings.{Settings}
 use Rattle.usn_carver.specs.Events.{Event, structure, time, rejected, carved, records, statsOf}
 use Rattle.usn_carver.specs.declared.Carving.{Carving}
@@ -31,8 +32,8 @@ pub record CandidateHeader : Type 0 where
   pub filetime : ℤ
 
 -- a candidate of n bytes at o, in an extract with this end: its length is from the fixed part to the largest, and it ends inside
-abbrev pub isCandidate : Settings → Layout → ℕ → ℕ → ℕ → Bool
-isCandidate st l end o n = leb (l .fixed) n && leb n (st .largest) && leb (o + n) end
+abbrev pub isCandidate : Layout → ℕ → ℕ → ℕ → Bool
+isCandidate l end o n = leb (l .fixed) n && leb n maxRecord && leb (o + n) end
 
 -- the name does not begin after the fixed part, or passes the record, or its length is 0 or odd
 abbrev pub badName : ℕ → ℕ → ℕ → ℕ → Bool
@@ -61,7 +62,7 @@ candidateHeaderAt l s o =
 
 -- a visit of o, where the version has layout l
 unfoldable pub carverVisitAs : Settings → Layout → List ℕ → ℕ → Visit Event
-carverVisitAs st l s o = cond (isCandidate st l (length s) o (leAt 4 s o)) (judged st l o (candidateHeaderAt l s o)) (go [] (o + 8))
+carverVisitAs st l s o = cond (isCandidate l (length s) o (leAt 4 s o)) (judged st l o (candidateHeaderAt l s o)) (go [] (o + 8))
 
 -- a visit of o, while 8 bytes fit: four zero bytes move on 8, and so does a version other than 2 and 3
 unfoldable pub carverVisit : Settings → List ℕ → ℕ → Visit Event

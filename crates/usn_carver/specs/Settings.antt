@@ -3,19 +3,16 @@ use Prim.Native.Nat.{ℕ}
 use lib.IntN.{ℤ, pos}
 use mir.Syntax.{w64}
 use mir.Val.{toZ}
-use Rattle.usn_record.specs.Record.{maxRecord}
 
 pub record Settings : Type 0 where
   -- the first and the last FILETIME that a carved record may have, as stored: ticks of 100 nanoseconds since 1601, signed
   pub lower : ℤ
   pub upper : ℤ
-  -- the most bytes of a record
-  pub largest : ℕ
 
 -- from the start of 2000 to 13 hours and 20 minutes into 2030
 abbrev pub standard : Settings
-standard = record { lower = pos 125911584000000000; upper = pos 135379776000000000; largest = maxRecord }
+standard = record { lower = pos 125911584000000000; upper = pos 135379776000000000 }
 
 -- limits as numbers of the code, a time by its 64 bits
-abbrev pub settingsOf : ℕ → ℕ → ℕ → Settings
-settingsOf lower upper largest = record { lower = toZ w64 lower; upper = toZ w64 upper; largest = largest }
+abbrev pub settingsOf : ℕ → ℕ → Settings
+settingsOf lower upper = record { lower = toZ w64 lower; upper = toZ w64 upper }

@@ -15,23 +15,23 @@ use usn_record::zeros::skip_zeros;
 
 // Whether the records to be carved are no more than room. None is counted where room is enough for any extract so long: a
 // carved record takes 64 bytes, of which the last may lack 4.
-pub(crate) fn has_room(extract: &[u8], room: usize, lower: u64, upper: u64, largest: usize) -> bool
-    ensures { λ r. ⌜ r ≡ leb (length (carvedPlaces (settingsOf lower upper largest) (now (extract .entry)))) room ⌝ }
+pub(crate) fn has_room(extract: &[u8], room: usize, lower: u64, upper: u64) -> bool
+    ensures { λ r. ⌜ r ≡ leb (length (carvedPlaces (settingsOf lower upper) (now (extract .entry)))) room ⌝ }
 {
     if (extract.len() + 4) / 64 <= room {
         return true;
     }
-    count_records(extract, lower, upper, largest) <= room
+    count_records(extract, lower, upper) <= room
 }
 
 // How many records are carved.
-fn count_records(extract: &[u8], lower: u64, upper: u64, largest: usize) -> usize
-    ensures { λ r. ⌜ r ≡ length (carvedPlaces (settingsOf lower upper largest) (now (extract .entry))) ⌝ }
+fn count_records(extract: &[u8], lower: u64, upper: u64) -> usize
+    ensures { λ r. ⌜ r ≡ length (carvedPlaces (settingsOf lower upper) (now (extract .entry))) ⌝ }
 {
     let mut n: usize = 0;
     let mut o: usize = 0;
     loop {
-        match carve_step(extract, o, lower, upper, largest) {
+        match carve_step(extract, o, lower, upper) {
             CarveStep::Stop => return n,
             CarveStep::Zero(next) => o = skip_zeros(extract, next),
             CarveStep::Move(next)
@@ -48,20 +48,14 @@ fn count_records(extract: &[u8], lower: u64, upper: u64, largest: usize) -> usiz
 }
 
 // The carved records into the list, and the counters of the run.
-pub(crate) fn fill_list(
-    extract: &[u8],
-    list: &mut [usize],
-    lower: u64,
-    upper: u64,
-    largest: usize,
-) -> CarvingStats
-    requires { ⌜ length (carvedPlaces (settingsOf lower upper largest) (now extract)) ≤ length (now list) / 2 ⌝ }
-    ensures { λ r. ⌜ FillPromise (settingsOf lower upper largest) extract list r ⌝ }
+pub(crate) fn fill_list(extract: &[u8], list: &mut [usize], lower: u64, upper: u64) -> CarvingStats
+    requires { ⌜ length (carvedPlaces (settingsOf lower upper) (now extract)) ≤ length (now list) / 2 ⌝ }
+    ensures { λ r. ⌜ FillPromise (settingsOf lower upper) extract list r ⌝ }
 {
     let mut stats = nothing_met(extract.len());
     let mut o: usize = 0;
     loop {
-        match carve_step(extract, o, lower, upper, largest) {
+        match carve_step(extract, o, lower, upper) {
             CarveStep::Stop => return stats,
             CarveStep::Zero(next) => o = skip_zeros(extract, next),
             CarveStep::Move(next) => o = next,

@@ -17,8 +17,6 @@ use walk::LIST_FULL;
 const FILETIME_2000: u64 = 125_911_584_000_000_000;
 // The latest: 13 hours and 20 minutes into 2030.
 const FILETIME_2030: u64 = 135_379_776_000_000_000;
-// The largest record.
-const USN_MAX_RECORD_SIZE: usize = 65536;
 
 // What a run counted. Every candidate is carved or rejected, for its structure or else for its time.
 pub struct CarvingStats {
@@ -41,24 +39,18 @@ pub enum Carving {
 pub fn carve_usn_records(extract: &[u8], list: &mut [usize]) -> Carving
     ensures { λ r. ⌜ CarvePromise standard extract list r ⌝ }
 {
-    carve(
-        extract,
-        list,
-        FILETIME_2000,
-        FILETIME_2030,
-        USN_MAX_RECORD_SIZE,
-    )
+    carve(extract, list, FILETIME_2000, FILETIME_2030)
 }
 
-// Carving with any limits: the times from lower to upper, given by their bits, and records of up to largest bytes.
-fn carve(extract: &[u8], list: &mut [usize], lower: u64, upper: u64, largest: usize) -> Carving
-    ensures { λ r. ⌜ CarvePromise (settingsOf lower upper largest) extract list r ⌝ }
+// Carving with any limits: the times from lower to upper, given by their bits.
+fn carve(extract: &[u8], list: &mut [usize], lower: u64, upper: u64) -> Carving
+    ensures { λ r. ⌜ CarvePromise (settingsOf lower upper) extract list r ⌝ }
 {
     if DOMAIN < extract.len() {
         return Carving::Refused(ABOVE_DOMAIN);
     }
-    if has_room(extract, list.len() / 2, lower, upper, largest) {
-        Carving::Carved(fill_list(extract, list, lower, upper, largest))
+    if has_room(extract, list.len() / 2, lower, upper) {
+        Carving::Carved(fill_list(extract, list, lower, upper))
     } else {
         Carving::Refused(LIST_FULL)
     }

@@ -10,6 +10,14 @@ use crate::time::bad_time;
 use usn_record::bytes::le_u16;
 use usn_record::bytes::le_u32;
 use usn_record::bytes::le_u64;
+use usn_record::layout::MAJOR_VERSION;
+use usn_record::layout::NAME_LENGTH;
+use usn_record::layout::NAME_OFFSET;
+use usn_record::layout::SHARED;
+use usn_record::layout::TIME;
+use usn_record::layout::USN_MAX_RECORD_SIZE;
+use usn_record::layout::USN_V2;
+use usn_record::layout::USN_V3;
 
 // What a visit says, with the offset of the next one: the extract ends, a zero word or nothing of interest is passed, or a
 // candidate of a version is rejected, or carved with its length.
@@ -22,15 +30,9 @@ pub enum CarveStep {
     Carved(u16, usize, usize),
 }
 
-// The visit of offset o, for the times from lower to upper, given by their bits, and records of up to largest bytes.
-pub(crate) fn carve_step(
-    extract: &[u8],
-    o: usize,
-    lower: u64,
-    upper: u64,
-    largest: usize,
-) -> CarveStep
-    ensures { λ r. ⌜ carverVisitOf o r ≡ carverVisit (settingsOf lower upper largest) (now (extract .entry)) o ⌝ }
+// The visit of offset o, for the times from lower to upper, given by their bits.
+pub(crate) fn carve_step(extract: &[u8], o: usize, lower: u64, upper: u64) -> CarveStep
+    ensures { λ r. ⌜ carverVisitOf o r ≡ carverVisit (settingsOf lower upper) (now (extract .entry)) o ⌝ }
 {
     let end = extract.len();
     if end < 8 {
@@ -43,10 +45,10 @@ pub(crate) fn carve_step(
     if size == 0 {
         return CarveStep::Zero(o + 8);
     }
-    let version = le_u16(extract, o + 4);
+    let version = le_u16(extract, o + MAJOR_VERSION);
     match version {
-        2 => examine(extract, o, size, 0x18, 2, lower, upper, largest),
-        3 => examine(extract, o, size, 0x28, 3, lower, upper, largest),
+        2 => examine(extract, o, size, USN_V2, 2, lower, upper),
+        3 => examine(extract, o, size, USN_V3, 3, lower, upper),
         _ => CarveStep::Move(o + 8),
     }
 }
@@ -62,27 +64,26 @@ fn examine(
     version: u16,
     lower: u64,
     upper: u64,
-    largest: usize,
 ) -> CarveStep
     requires { ⌜ (o + 8 ≤ length (now extract)) × (size ≡ leAt 4 (now extract) o) × (tail < 4096) ⌝ }
-    ensures { λ r. ⌜ carverVisitOf o r ≡ carverVisitAs (settingsOf lower upper largest) (layoutFrom tail version) (now (extract .entry)) o ⌝ }
+    ensures { λ r. ⌜ carverVisitOf o r ≡ carverVisitAs (settingsOf lower upper) (layoutFrom tail version) (now (extract .entry)) o ⌝ }
 {
-    let fixed = tail + 36;
+    let fixed = tail + SHARED;
     if size < fixed {
         return CarveStep::Move(o + 8);
     }
-    if largest < size {
+    if USN_MAX_RECORD_SIZE < size {
         return CarveStep::Move(o + 8);
     }
     if extract.len() - o < size {
         return CarveStep::Move(o + 8);
     }
-    let name_offset = le_u16(extract, o + (tail + 34));
-    let name_length = le_u16(extract, o + (tail + 32));
+    let name_offset = le_u16(extract, o + (tail + NAME_OFFSET));
+    let name_length = le_u16(extract, o + (tail + NAME_LENGTH));
     if bad_name(fixed, size, name_offset, name_length) {
         return CarveStep::BadStructure(version, o + 8);
     }
-    if bad_time(le_u64(extract, o + (tail + 8)), lower, upper) {
+    if bad_time(le_u64(extract, o + (tail + TIME)), lower, upper) {
         return CarveStep::BadTime(version, o + 8);
     }
     CarveStep::Carved(version, size, o + (size + 7) / 8 * 8)

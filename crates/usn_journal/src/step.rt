@@ -10,17 +10,15 @@ ghost use Rattle.usn_journal.specs.Step.{Lying, scanVisitOf, parsedVisit
 use usn_record::Parsed;
 use usn_record::bytes::le_u16;
 use usn_record::bytes::le_u32;
+use usn_record::layout::MAJOR_VERSION;
+use usn_record::layout::USN_MAX_RECORD_SIZE;
+use usn_record::layout::USN_V2_MIN_SIZE;
+use usn_record::layout::USN_V3_MIN_SIZE;
 use usn_record::parse_usn_record_v2;
 use usn_record::parse_usn_record_v3;
 
 // The smallest record of any version.
 const USN_V4_MIN_SIZE: usize = 56;
-// The fixed part of a version 2 record.
-const USN_V2_MIN_SIZE: usize = 60;
-// That of version 3.
-const USN_V3_MIN_SIZE: usize = 76;
-// The largest record.
-const USN_MAX_RECORD_SIZE: usize = 65536;
 
 // What a visit says: stop, go on at the next offset, or the place of a record and the offset past it. A version 4 record tracks
 // changed ranges and is a range.
@@ -72,7 +70,7 @@ fn version_step(extract: &[u8], o: usize, n: usize) -> ScanStep
     ensures { λ r. ⌜ scanVisitOf r ≡ scanVisitAs o n (kindByVersion n (versionAt (now (extract .entry)) o)) ⌝ }
 {
     let e = o + n;
-    let version = le_u16(extract, o + 4);
+    let version = le_u16(extract, o + MAJOR_VERSION);
     match version {
         2 => {
             if n < USN_V2_MIN_SIZE {

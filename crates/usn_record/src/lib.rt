@@ -3,6 +3,7 @@
 // Every function here is proved. No call has a `requires`: any slice gets an answer, a record or a refusal by its number.
 pub mod bytes;
 pub mod fields;
+pub mod layout;
 pub mod listed;
 mod parse;
 pub mod zeros;
@@ -12,6 +13,11 @@ ghost use Rattle.usn_record.specs.Layout.{v2, v3};
 ghost use Rattle.usn_record.specs.Record.{outcome, parsed, listed, asListed};
 use crate::bytes::le_u16;
 use crate::bytes::le_u32;
+use crate::layout::MAJOR_VERSION;
+use crate::layout::PARENT_REFERENCE_V2;
+use crate::layout::PARENT_REFERENCE_V3;
+use crate::layout::USN_V2;
+use crate::layout::USN_V3;
 use crate::parse::parse;
 use walk::NOT_A_RECORD;
 use walk::Place;
@@ -61,7 +67,7 @@ pub enum Parsed {
 pub fn parse_usn_record_v2(data: &[u8]) -> Parsed
     ensures { λ r. ⌜ outcome r ≡ parsed v2 (now («data» .entry)) ⌝ }
 {
-    parse(data, 0x10, 0x18, false, true, true, 2)
+    parse(data, PARENT_REFERENCE_V2, USN_V2, false, true, true, 2)
 }
 
 // The version 3 record that data begins with. The version field is not read.
@@ -69,7 +75,7 @@ pub fn parse_usn_record_v2(data: &[u8]) -> Parsed
 pub fn parse_usn_record_v3(data: &[u8]) -> Parsed
     ensures { λ r. ⌜ outcome r ≡ parsed v3 (now («data» .entry)) ⌝ }
 {
-    parse(data, 0x18, 0x28, true, false, false, 3)
+    parse(data, PARENT_REFERENCE_V3, USN_V3, true, false, false, 3)
 }
 
 // The record at an offset of an extract, taken by its offset alone: its parser is handed the part that begins there and is
@@ -90,7 +96,7 @@ pub fn listed_record(extract: &[u8], offset: usize) -> Parsed
         return Parsed::Refused(NOT_A_RECORD);
     }
     let end = offset + length;
-    let version = le_u16(extract, offset + 4);
+    let version = le_u16(extract, offset + MAJOR_VERSION);
     match version {
         2 => not_a_record(parse_usn_record_v2(&extract[offset..end])),
         3 => not_a_record(parse_usn_record_v3(&extract[offset..end])),

@@ -3,7 +3,10 @@ ghost use mathlib.Core.Path.{_≡_};
 ghost use Rattle.usn_record.specs.Record.{listed, isAnswered, fitsRecord};
 use crate::bytes::le_u16;
 use crate::bytes::le_u32;
-use crate::parse::USN_MAX_RECORD_SIZE;
+use crate::layout::MAJOR_VERSION;
+use crate::layout::USN_MAX_RECORD_SIZE;
+use crate::layout::USN_V2_MIN_SIZE;
+use crate::layout::USN_V3_MIN_SIZE;
 
 // Whether a record stands at an offset of an extract: whether `listed_record` accepts it. No field but its length and version
 // is read, as its parser would be handed a part that is as long as its length.
@@ -21,10 +24,10 @@ pub fn is_listed(extract: &[u8], offset: usize) -> bool
     if size - offset < length {
         return false;
     }
-    let version = le_u16(extract, offset + 4);
+    let version = le_u16(extract, offset + MAJOR_VERSION);
     match version {
-        2 => fits_record(60, length),
-        3 => fits_record(76, length),
+        2 => fits_record(USN_V2_MIN_SIZE, length),
+        3 => fits_record(USN_V3_MIN_SIZE, length),
         _ => false,
     }
 }

@@ -12,14 +12,22 @@ use crate::fields::filename_place;
 use crate::fields::filetime_to_timestamp;
 use crate::fields::read_reference;
 use crate::fields::signed;
+use crate::layout::FILE_ATTRIBUTES;
+use crate::layout::FILE_REFERENCE;
+use crate::layout::MINOR_VERSION;
+use crate::layout::NAME_LENGTH;
+use crate::layout::NAME_OFFSET;
+use crate::layout::REASON;
+use crate::layout::SECURITY_ID;
+use crate::layout::SHARED;
+use crate::layout::SOURCE_INFO;
+use crate::layout::TIME;
+use crate::layout::USN_MAX_RECORD_SIZE;
 use walk::ABOVE_DOMAIN;
 use walk::BAD_LENGTH;
 use walk::DOMAIN;
 use walk::LENGTH_PAST_SLICE;
 use walk::SHORT_SLICE;
-
-// The largest record.
-pub(crate) const USN_MAX_RECORD_SIZE: usize = 65536;
 
 // A record whose parent reference is at parent and whose fields from the USN on begin at tail. The layout's numbers are
 // parameters of their own and no struct, so that the compiler makes one function with constant offsets for each version.
@@ -39,7 +47,7 @@ pub(crate) fn parse(
     if DOMAIN < size {
         return Parsed::Refused(ABOVE_DOMAIN);
     }
-    let fixed = tail + 36;
+    let fixed = tail + SHARED;
     if size < fixed {
         return Parsed::Refused(SHORT_SLICE);
     }
@@ -56,9 +64,9 @@ pub(crate) fn parse(
             return Parsed::Refused(LENGTH_PAST_SLICE);
         }
     }
-    let file = read_reference(data, 8, wide, sequenced);
+    let file = read_reference(data, FILE_REFERENCE, wide, sequenced);
     let above = read_reference(data, parent, wide, sequenced);
-    let time = le_u64(data, tail + 8);
+    let time = le_u64(data, tail + TIME);
     Parsed::Record(UsnRecord {
         mft_entry: file.entry,
         mft_sequence: file.sequence,
@@ -66,13 +74,17 @@ pub(crate) fn parse(
         parent_mft_sequence: above.sequence,
         usn: signed(le_u64(data, tail)),
         timestamp: filetime_to_timestamp(time),
-        reason: le_u32(data, tail + 16),
-        filename: filename_place(size, le_u16(data, tail + 34), le_u16(data, tail + 32)),
-        file_attributes: le_u32(data, tail + 28),
-        source_info: le_u32(data, tail + 20),
-        security_id: le_u32(data, tail + 24),
+        reason: le_u32(data, tail + REASON),
+        filename: filename_place(
+            size,
+            le_u16(data, tail + NAME_OFFSET),
+            le_u16(data, tail + NAME_LENGTH),
+        ),
+        file_attributes: le_u32(data, tail + FILE_ATTRIBUTES),
+        source_info: le_u32(data, tail + SOURCE_INFO),
+        security_id: le_u32(data, tail + SECURITY_ID),
         major_version: major,
-        minor_version: le_u16(data, 6),
+        minor_version: le_u16(data, MINOR_VERSION),
         record_length,
         filetime: signed(time),
         file_reference_high: file.high,

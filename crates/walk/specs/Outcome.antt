@@ -11,6 +11,11 @@ abbrev pub mapOutcome : {A B : Type 0} → (A → B) → Outcome A → Outcome B
 mapOutcome f (refused n) = refused n
 mapOutcome f (answered a) = answered (f a)
 
+-- what comes after an answer; a refusal stays
+abbrev pub andThen : {A B : Type 0} → Outcome A → (A → Outcome B) → Outcome B
+andThen (refused n) f = refused n
+andThen (answered a) f = f a
+
 -- every refusal under one number
 abbrev pub refusedAs : {A : Type 0} → ℕ → Outcome A → Outcome A
 refusedAs n (refused m) = refused n

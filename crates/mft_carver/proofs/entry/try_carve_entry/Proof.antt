@@ -20,10 +20,10 @@ cast-first : tie.Need-cast-first
 cast-first c = search needs
 
 returns-2 : tie.Need-returns-2
-returns-2 c = first-below _ _ _ (c .before .before .before .le-u16 .ensures) (c .before .before .if1 .left) (c .before .le-u162 .ensures) (c .if2 .taken)
+returns-2 c = first-below _ _ _ (c .before .before .before .before .le-u16 .ensures) (c .before .before .before .if1 .left) (c .before .before .le-u162 .ensures) (c .if2 .taken)
 
 returns-3 : tie.Need-returns-3
-returns-3 c = first-above _ _ _ (c .before .before .before .before .le-u16 .ensures) (c .before .before .before .if1 .left) (c .before .before .le-u162 .ensures) (c .before .if2 .left) (c .if3 .taken)
+returns-3 c = first-above _ _ _ (c .before .before .before .before .before .before .le-u16 .ensures) (c .before .before .before .before .before .if1 .left) (c .before .before .before .before .le-u162 .ensures) (c .before .before .if2 .left) (c .if3 .taken)
 
 best-filename-requires : tie.Need-best-filename-requires
 best-filename-requires c κs = search needs
@@ -40,17 +40,17 @@ le-u16-requires-3 c κs = search needs
 le-u32-requires : tie.Need-le-u32-requires
 le-u32-requires c κs = search needs
 
-cast-t15 : tie.Need-cast-t15
-cast-t15 c = search needs
+cast-t13 : tie.Need-cast-t13
+cast-t13 c = search needs
 
-add-t16 : tie.Need-add-t16
-add-t16 c = omega (arith, found-lies _ _ _ (c .before .before .before .before .before .before .best-filename .ensures) (c .before .before .before .before .name .given .1) .ends)
+add-t14 : tie.Need-add-t14
+add-t14 c = omega (arith, found-lies _ _ _ (c .before .before .before .before .before .before .best-filename .ensures) (c .before .before .before .before .name .given .1) .ends)
 
 returns-4 : tie.Need-returns-4
-returns-4 c = rejected-nameless _ _ _ (c .before .before .before .before .before .before .before .le-u16 .ensures) (c .before .before .before .before .before .before .if1 .left) (c .before .before .before .before .before .le-u162 .ensures) (c .before .before .before .before .if2 .left) (c .before .before .before .if3 .left) (c .before .before .best-filename .ensures) refl (c .enum-told .given .1)
+returns-4 c = rejected-nameless _ _ _ (c .before .before .before .before .before .before .before .before .before .le-u16 .ensures) (c .before .before .before .before .before .before .before .before .if1 .left) (c .before .before .before .before .before .before .before .le-u162 .ensures) (c .before .before .before .before .before .if2 .left) (c .before .before .before .if3 .left) (c .before .before .best-filename .ensures) refl (c .enum-told .given .1)
 
 returns-5 : tie.Need-returns-5
-returns-5 c = carved-entry _ _ _ (c .before .before .before .before .before .before .before .before .before .before .before .le-u16 .ensures) (c .before .before .before .before .before .before .before .before .before .before .if1 .left) (c .before .before .before .before .before .before .before .before .before .le-u162 .ensures) (c .before .before .before .before .before .before .before .before .if2 .left) (c .before .before .before .before .before .before .before .if3 .left) (c .before .before .before .before .before .before .best-filename .ensures) refl (c .before .before .before .before .name .given .1) (c .before .before .le-u163 .ensures) (c .before .le-u32 .ensures)
+returns-5 c = carved-entry _ _ _ (c .before .before .before .before .before .before .before .before .before .before .before .before .before .le-u16 .ensures) (c .before .before .before .before .before .before .before .before .before .before .before .before .if1 .left) (c .before .before .before .before .before .before .before .before .before .before .before .le-u162 .ensures) (c .before .before .before .before .before .before .before .before .before .if2 .left) (c .before .before .before .before .before .before .before .if3 .left) (c .before .before .before .before .before .before .best-filename .ensures) refl (c .before .before .before .before .name .given .1) (c .before .before .le-u163 .ensures) (c .before .le-u32 .ensures)
 
 pub try-carve-entry-spec : {M : Type 1} → statement M
 try-carve-entry-spec =
@@ -67,7 +67,7 @@ try-carve-entry-spec =
     enum-known-name
     le-u16-requires-3
     le-u32-requires
-    cast-t15
-    add-t16
+    cast-t13
+    add-t14
     returns-4
     returns-5)

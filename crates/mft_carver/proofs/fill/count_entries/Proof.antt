@@ -3,17 +3,16 @@ use Prim.Native.Nat.{_-_}
 use native.Mathlib.Omega.{arith}
 use lib.ListN.{length}
 use borrow.Author.Needs.{needs}
-use Rattle.mft_carver.specs.Settings.{settingsOf}
 use Rattle.mft_carver.proofs.RunLaws.{rest}
 use Rattle.mft_carver.proofs.FillLaws.{Counting, counted}
 use Rattle.mft_carver.proofs.fill.count_entries.Statement.{statement}
 use Rattle.mft_carver.proofs.fill.count_entries.Tie as tie
 
 abbrev Inv-loop : tie.InvT-loop
-Inv-loop image size low high walked n₀ o₀ n o = Counting (settingsOf size low high walked) image n o
+Inv-loop image settings n₀ o₀ n o = Counting settings image n o
 
 abbrev μ-loop : tie.MeasureT-loop
-μ-loop image size low high walked n₀ o₀ n o = length image - o
+μ-loop image settings n₀ o₀ n o = length image - o
 
 loop-holds : tie.Need-loop-holds Inv-loop μ-loop
 loop-holds c = omega arith

@@ -4,17 +4,16 @@ use mathlib.Core.Path.{ap}
 use native.Mathlib.Omega.{arith}
 use lib.ListN.{length}
 use borrow.Author.Needs.{needs}
-use Rattle.mft_carver.specs.Settings.{settingsOf}
 use Rattle.mft_carver.proofs.RunLaws.{rest}
 use Rattle.mft_carver.proofs.FillLaws.{Filling, filling-start, filling-pass, filling-rejected, filling-room, filling-carved, filling-end}
 use Rattle.mft_carver.proofs.fill.fill_list.Statement.{statement}
 use Rattle.mft_carver.proofs.fill.fill_list.Tie as tie
 
 abbrev Inv-loop : tie.InvT-loop
-Inv-loop image list₀ size low high walked stats₀ o₀ list stats o = Filling (settingsOf size low high walked) image list₀ list stats o
+Inv-loop image list₀ settings stats₀ o₀ list stats o = Filling settings image list₀ list stats o
 
 abbrev μ-loop : tie.MeasureT-loop
-μ-loop image list₀ size low high walked stats₀ o₀ list stats o = length image - o
+μ-loop image list₀ settings stats₀ o₀ list stats o = length image - o
 
 nothing-met-requires : tie.Need-nothing-met-requires Inv-loop μ-loop
 nothing-met-requires c κs = tt

@@ -36,10 +36,10 @@ enum-known-carved : tie.Need-enum-known-carved
 enum-known-carved c = search needs
 
 returns-3 : tie.Need-returns-3
-returns-3 c = candidate _ _ _ (omega arith) (c .before .before .before .before .has-signature .ensures) (c .before .before .before .if3 .taken) (event-of _ _ _ _ _ _ _ (c .enum-told .given .1) (c .before .before .try-carve-entry .ensures))
+returns-3 c = candidate _ _ _ (omega arith) (c .before .before .before .before .has-signature .ensures) (c .before .before .before .if3 .taken) (event-of _ _ _ (c .enum-told .given .1) (c .before .before .try-carve-entry .ensures))
 
 returns-4 : tie.Need-returns-4
-returns-4 c = candidate _ _ _ (omega arith) (c .before .before .before .before .before .has-signature .ensures) (c .before .before .before .before .if3 .taken) (event-of _ _ _ _ _ _ _ (c .before .carved .given .1) (c .before .before .before .try-carve-entry .ensures))
+returns-4 c = candidate _ _ _ (omega arith) (c .before .before .before .before .before .has-signature .ensures) (c .before .before .before .before .if3 .taken) (event-of _ _ _ (c .before .carved .given .1) (c .before .before .before .try-carve-entry .ensures))
 
 returns-5 : tie.Need-returns-5
 returns-5 c = no-candidate _ _ _ (omega arith) (c .before .has-signature .ensures) (c .if3 .left)

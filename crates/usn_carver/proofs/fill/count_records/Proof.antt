@@ -10,10 +10,10 @@ use Rattle.usn_carver.proofs.fill.count_records.Statement.{statement}
 use Rattle.usn_carver.proofs.fill.count_records.Tie as tie
 
 abbrev Inv-loop : tie.InvT-loop
-Inv-loop extract lower upper largest n₀ o₀ n o = Counting (settingsOf lower upper largest) extract n o
+Inv-loop extract lower upper n₀ o₀ n o = Counting (settingsOf lower upper) extract n o
 
 abbrev μ-loop : tie.MeasureT-loop
-μ-loop extract lower upper largest n₀ o₀ n o = length extract - o
+μ-loop extract lower upper n₀ o₀ n o = length extract - o
 
 loop-holds : tie.Need-loop-holds Inv-loop μ-loop
 loop-holds c = omega arith

@@ -10,10 +10,10 @@ use Rattle.usn_carver.proofs.fill.fill_list.Statement.{statement}
 use Rattle.usn_carver.proofs.fill.fill_list.Tie as tie
 
 abbrev Inv-loop : tie.InvT-loop
-Inv-loop extract list₀ lower upper largest stats₀ o₀ list stats o = Filling (settingsOf lower upper largest) extract list₀ list stats o
+Inv-loop extract list₀ lower upper stats₀ o₀ list stats o = Filling (settingsOf lower upper) extract list₀ list stats o
 
 abbrev μ-loop : tie.MeasureT-loop
-μ-loop extract list₀ lower upper largest stats₀ o₀ list stats o = length extract - o
+μ-loop extract list₀ lower upper stats₀ o₀ list stats o = length extract - o
 
 nothing-met-requires : tie.Need-nothing-met-requires Inv-loop μ-loop
 nothing-met-requires c κs = tt
