@@ -17,8 +17,8 @@ le-u32-requires c κs = search needs
 cast-size : tie.Need-cast-size
 cast-size c = search needs
 
-add-t12 : tie.Need-add-t12
-add-t12 c = search needs
+add-t11 : tie.Need-add-t11
+add-t11 c = search needs
 
 returns-3 : tie.Need-returns-3
 returns-3 c = passed-zero _ _ _ (omega arith) (c .before .le-u32 .ensures) (c .if3 .taken)
@@ -35,8 +35,8 @@ examine-requires c κs = search needs
 examine-requires-2 : tie.Need-examine-requires-2
 examine-requires-2 c κs = search needs
 
-add-t14 : tie.Need-add-t14
-add-t14 c = search needs
+add-t13 : tie.Need-add-t13
+add-t13 c = search needs
 
 returns-4 : tie.Need-returns-4
 returns-4 c = by-v2 _ _ _ (omega arith) (c .before .before .before .before .le-u32 .ensures) (c .before .before .before .if3 .left) (c .before .before .le-u16 .ensures) (c .before .match .keys1) (c .examine .ensures)
@@ -55,13 +55,13 @@ carve-step-spec =
     returns-2
     le-u32-requires
     cast-size
-    add-t12
+    add-t11
     returns-3
     add-le-u16
     le-u16-requires
     examine-requires
     examine-requires-2
-    add-t14
+    add-t13
     returns-4
     returns-5
     returns-6)
