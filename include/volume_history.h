@@ -232,19 +232,19 @@ uint32_t rewind_start_indexed(const uint8_t *journal, size_t journal_len, const 
 /* The words of a run's answer, by their index. */
 enum rewind_run_word {
     REWIND_RUN_STEPS = 0,    /* how many steps were made */
-    REWIND_RUN_REFUSAL = 1,  /* 0, or the refusal of the step before which the run stopped */
+    REWIND_RUN_STOPPED = 1,  /* 0, or what stopped the run before its next step: USN_TABLE_FULL or USN_TEXT_FULL */
     REWIND_RUN_USED = 2,     /* the state after the last step that was made */
     REWIND_RUN_POSITION = 3,
     REWIND_RUN_WORDS = 4
 };
 
 /* rewind_run: many steps of rewind_next in one call, which tests once what they test each, by way of an index of forward as
- * table_seed_indexed has it. As many steps are made as ends has words, unless a step would be refused or no record is left. The
- * steps' paths go to the front of text, one behind the other, and where each of them ends to ends; no chain is written. The
- * REWIND_RUN_WORDS words go to out: a step that would be refused, by 8 where its path passes the text, has changed nothing, and a
- * further run goes on with it. Fewer steps than ends has words, and no refusal: no record is left. Lend all records at every run, with
- * the state that the run before gave.
- * Refuses: 5 out has fewer than 4 words. All other refusals of rewind_next go to out. */
+ * table_seed_indexed has it. As many steps are made as ends has words, unless no record is left or a step stops the run: 6 the
+ * record's key is new and no slot is left, 8 its path passes what is left of text. That step has changed nothing, and a further run
+ * goes on with it. The steps' paths go to the front of text, one behind the other, and where each of them ends to ends; no chain is
+ * written. The REWIND_RUN_WORDS words go to out. Fewer steps than ends has words, and not stopped: no record is left. Lend all records
+ * at every run, with the state that the run before gave.
+ * Refuses, also where ends has no words: 1 journal or image, 5 out has fewer than 4 words, 9, 12 and 7 as rewind_next. */
 uint32_t rewind_run(const uint8_t *journal, size_t journal_len, const uint8_t *image, size_t image_len, const size_t *records,
                     size_t records_len, size_t used, size_t position, uint64_t *forward, size_t forward_len, uint64_t *heads,
                     size_t heads_len, uint64_t *nexts, size_t nexts_len, uint64_t *ends, size_t ends_len, uint8_t *text,

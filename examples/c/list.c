@@ -134,7 +134,7 @@ static void list_records(const uint8_t *journal, size_t length, const size_t *li
         }
         used = out[REWIND_RUN_USED];
         position = out[REWIND_RUN_POSITION];
-        if (out[REWIND_RUN_REFUSAL] == USN_TEXT_FULL && steps == 0) {
+        if (out[REWIND_RUN_STOPPED] == USN_TEXT_FULL && steps == 0) {
             /* The next path is longer than all the text. */
             print_numbers(journal, length, list[position * USN_PLACE_WORDS]);
             puts("?");
@@ -142,8 +142,8 @@ static void list_records(const uint8_t *journal, size_t length, const size_t *li
                                                             chain, 0, out, REWIND_CHAIN_STEP_WORDS));
             used = out[REWIND_STEP_USED];
             position = out[REWIND_STEP_POSITION];
-        } else if (out[REWIND_RUN_REFUSAL] != USN_TEXT_FULL) {
-            answered("a step of the rewind", (uint32_t)out[REWIND_RUN_REFUSAL]);
+        } else if (out[REWIND_RUN_STOPPED] != USN_TEXT_FULL) {
+            answered("a step of the rewind", (uint32_t)out[REWIND_RUN_STOPPED]);
         }
     }
     free(text);

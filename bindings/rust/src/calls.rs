@@ -335,7 +335,8 @@ pub struct Texts<'a> {
 
 /// As many steps over the listed records as `ends` has words: each record goes into `forward`, its path behind those before it in
 /// `text`, and where it ends to `ends`. The words of `state`, the used slots and the records behind, come in and are those after
-/// the last step. The words of `out` are the steps, 0 or the refusal of the step before which it stopped, and the state again.
+/// the last step. The words of `out` are the steps, 0 or what stopped it before the next one, 6 or 8, and the state again. Refused
+/// with nothing written for 1, 5, 9, 12 and 7.
 pub fn rewind_run(
     names: &[u8],
     records: &[usize],

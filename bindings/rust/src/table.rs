@@ -291,17 +291,17 @@ fn run(names: &[u8], list: &[usize], mut state: [usize; 2], forward: &mut [u64],
             0 => {}
             refusal => ruled_out("rewind_run", refusal),
         }
-        let [steps, refusal, used, position] = out;
+        let [steps, stopped, used, position] = out;
         let mut from = 0;
         for &end in &asked[..number(steps)] {
             texts.push(text::string(&text[from..number(end)]));
             from = number(end);
         }
         state = [used, position].map(number);
-        match refusal {
+        match stopped {
             0 => {}
-            refusal if refusal == u64::from(TEXT_FULL) => text.resize(2 * text.len(), 0),
-            refusal => ruled_out("rewind_run", refusal as u32),
+            stopped if stopped == u64::from(TEXT_FULL) => text.resize(2 * text.len(), 0),
+            stopped => ruled_out("rewind_run", stopped as u32),
         }
     }
     texts

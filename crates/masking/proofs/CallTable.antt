@@ -28,8 +28,8 @@ use Rattle.rewind_records.specs.Turning.{ended, next, turning}
 use Rattle.rewind_steps.specs.StepText.{recordText}
 use Rattle.rewind.specs.Starting.{starting}
 use Rattle.rewind.specs.Stepping.{stateOf}
-use Rattle.rewind_run.specs.Running.{runFrom}
-use Rattle.rewind_run.specs.Calls.{rooms}
+use Rattle.rewind_run.specs.Running.{testedRun}
+use Rattle.rewind_run.specs.Calls.{rooms, callRooms}
 use Rattle.masking.specs.Calls.{Sources, sources, kept, State, Call, plain, nextText, insert, insertIfAbsent, seed, start, hand, lend, Answer, used, begun, step, nothing, stored, startResult, nextResult, handed, lent, Done, results, struck, plainsOf, resultsOf}
 use Rattle.masking.specs.Calls as call
 use Rattle.masking.proofs.Sample.{units, fixed2, fixed3, key, placed, info}
@@ -158,10 +158,11 @@ pub compared : (plainsOf (full ∷ afterwards) ≡ call.next 1 ∷ call.next 1 �
     × (resultsOf (full ∷ []) ≡ record { outcome = refused textFull; after = state rewound 5 entered 3 0 eights } ∷ [])
 compared = (refl, refl)
 
--- A run of up to three steps over the second table, with twenty bytes for text, stands for three nexts with text: two records of six bytes each, and the end. With
--- more used slots than there are slots it stands for one next, which is refused; and where none is asked for, for none.
-pub runs : (rooms journal image (source .records) 20 3 (runFrom entered (stateOf 3 0)) ≡ 20 ∷ 14 ∷ 8 ∷ [])
-    × (rooms journal image (source .records) 20 3 (runFrom entered (stateOf 7 0)) ≡ 20 ∷ [])
-    × (rooms journal image (source .records) 20 0 (runFrom entered (stateOf 3 0)) ≡ [])
-unfolding rooms rewindRefusal turning adding addAll addFound putAt newKeys findFrom sameKey every inside rows hasReason entryFrom chain isRoot withPlaces recordText pathText endText stepText placeText decoded codePoints alone utf8 unitsAt listed parsed recordOf referenceOf filenameOf leAt le
-runs = (refl, refl, refl)
+-- A run of up to three steps over the second table, with twenty bytes for text, stands for three nexts with text: two records of six bytes each, and the end; where
+-- none is asked for, for none. With more used slots than there are slots it stands for one next, which is refused, also where none is asked for.
+pub runs : (callRooms journal image (source .records) entered (stateOf 3 0) 20 3 ≡ 20 ∷ 14 ∷ 8 ∷ [])
+    × (callRooms journal image (source .records) entered (stateOf 3 0) 20 0 ≡ [])
+    × (callRooms journal image (source .records) entered (stateOf 7 0) 20 3 ≡ 20 ∷ [])
+    × (callRooms journal image (source .records) entered (stateOf 7 0) 20 0 ≡ 20 ∷ [])
+unfolding testedRun rooms rewindRefusal turning adding addAll addFound putAt newKeys findFrom sameKey every inside rows hasReason entryFrom chain isRoot withPlaces recordText pathText endText stepText placeText decoded codePoints alone utf8 unitsAt listed parsed recordOf referenceOf filenameOf leAt le
+runs = (refl, refl, refl, refl)

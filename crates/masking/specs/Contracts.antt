@@ -40,10 +40,11 @@ use Rattle.usn_reader.specs.Run.{readingOf, stateAfter, State as WindowState, C
 use Rattle.usn_reader.specs.Promise.{Gives}
 use Rattle.usn_reader.specs.Rule.{bufferReads}
 use Rattle.usn_reader.specs.declared.Reading.{Reading}
-use Rattle.rewind_run.specs.Running.{runFrom}
-use Rattle.rewind_run.specs.Calls.{rooms}
+use Rattle.rewind_run.specs.Running.{runOutcome}
+use Rattle.rewind_run.specs.Calls.{callRooms}
 use Rattle.rewind_run.specs.Promise.{RunsIndexed}
 use Rattle.rewind_run.specs.declared.RewindRun.{RewindRun}
+use Rattle.rewind_run.specs.declared.RunAnswer.{RunAnswer}
 use Rattle.masking.specs.Calls.{Sources, Kept, kept, State, Call, plain, nextText, insert, insertIfAbsent, seed, start, Answer, used, begun, step, nothing, Result, resultOf, Done, results, reached}
 use Rattle.masking.specs.Calls as list
 
@@ -56,6 +57,19 @@ usedBy n (Refused k) = n
 abbrev pub rewindBy : Rewind → Started → Rewind
 rewindBy r (started.Begun q) = q
 rewindBy r (started.Refused n) = r
+
+-- what a call of a run answers: how many steps it made, none where it is refused; 0, its refusal or what stopped it; and the rewind after it
+abbrev pub stepsBy : Outcome RewindRun → ℕ
+stepsBy (refused n) = 0
+stepsBy (answered x) = x .steps
+
+abbrev pub stopBy : Outcome RewindRun → ℕ
+stopBy (refused n) = n
+stopBy (answered x) = x .stopped
+
+abbrev pub rewindRan : Rewind → Outcome RewindRun → Rewind
+rewindRan r (refused n) = r
+rewindRan r (answered x) = x .rewind
 
 -- what a next answers, and as the two calls tell it: by the number of names and the end of the chain, and by the length of the text too
 abbrev pub nextOf : Answer → Next Step
@@ -181,18 +195,18 @@ module _ (s : Sources) (st : State) (i : ℕ) where
       → NextTextAs (length text) r words′ list′ (resultOf s (nextText i (length text)) st)
 
   -- A run of steps stands in the list as nexts with text, each with the room that the texts before it leave, up to the one that is refused or finds no
-  -- record. It has no chain list: one of no words stands for it. It gives as many records as they do, and has the refusal of the one that is
-  -- refused.
-  pub record RunAs (r : RewindRun) (words′ : List ℕ) (cs : List Call) : Type 0 where
-    pub gives : r .steps ≡ recordsIn (results s cs st)
-    pub refuses : r .refusal ≡ refusalIn (results s cs st)
-    pub leaves : reached s cs st ≡ nextLeaves (r .rewind) words′ []
+  -- record; one that is refused as one refused next, also where no step is asked for. It has no chain list: one of no words stands for it. It gives as many
+  -- records as they do, and has the refusal of the one that is refused.
+  pub record RunAs (r : RunAnswer) (words′ : List ℕ) (cs : List Call) : Type 0 where
+    pub gives : stepsBy (runOutcome r) ≡ recordsIn (results s cs st)
+    pub refuses : stopBy (runOutcome r) ≡ refusalIn (results s cs st)
+    pub leaves : reached s cs st ≡ nextLeaves (rewindRan rewind (runOutcome r)) words′ []
 
   abbrev pub RunIs : Type 0
   RunIs =
-      (heads nexts ends text : List ℕ) (r : RewindRun) (words′ heads′ nexts′ ends′ text′ : List ℕ) → i < length (st .tables) → st .chain ≡ []
+      (heads nexts ends text : List ℕ) (r : RunAnswer) (words′ heads′ nexts′ ends′ text′ : List ℕ) → i < length (st .tables) → st .chain ≡ []
       → RunsIndexed (s .journal) (s .image) (s .records) (here .words) rewind heads nexts ends text r words′ heads′ nexts′ ends′ text′
-      → RunAs r words′ (map (nextText i) (rooms (s .journal) (s .image) (s .records) (length text) (length ends) (runFrom (here .words) rewind)))
+      → RunAs r words′ (map (nextText i) (callRooms (s .journal) (s .image) (s .records) (here .words) rewind (length text) (length ends)))
 
 -- the window's calls: the answer and the window that a call returns are the list's, and so is the buffer at exit. A call with another buffer leaves the window's own.
 abbrev pub WindowLeaves : WindowCall → WindowState → Reading → List ℕ → Type 0

@@ -1,30 +1,35 @@
--- A call of many steps by its ways out: where no step is made nothing is written, and otherwise the run is made with an index, or with none. Assumes
+-- A call of many steps by its ways out: where a test refuses nothing is written, and otherwise the run is made with an index, or with none. Assumes
 -- nothing.
-use Prim.Native.Nat.{ℕ, suc, _-_, _*_, _≤_, _<_}
+use Prim.Native.Nat.{ℕ, _*_, _≤_, _<_}
 use mathlib.Core.Path.{_≡_, refl, ap, sym, _∙_}
 use mathlib.Core.List.{List, [], _++_}
-use mathlib.Core.Bool.{Bool, true, false}
+use mathlib.Core.Bool.{Bool, true, false, cond}
 use native.Mathlib.Omega.{arith}
-use borrow.Author.Tests.{lt-ltb, ne-eqb}
 use lib.ListN.{length}
-use lib.Dec.{eqb}
-use Rattle.walk.specs.Outcome.{refused, answered}
+use Rattle.walk.specs.Outcome.{Outcome, refused, answered, mapOutcome}
+use Rattle.walk.proofs.ChoiceLaws.{cond-cases}
 use Rattle.entry_slots.specs.Slots.{stride, slotsIn}
 use Rattle.entry_slots.specs.Table.{Table}
-use Rattle.entry_slots.specs.Index.{headsOf, nextsOf, enough}
+use Rattle.entry_slots.specs.Index.{headsOf, nextsOf, enough, headsLeft, nextsLeft}
 use Rattle.entry_slots.proofs.IndexLaws.{no-heads, no-nexts}
-use Rattle.entry_table.proofs.SeedLaws.{nexts-long, index-again, index-then, enough-room}
+use Rattle.entry_table.proofs.SeedLaws.{nexts-long, index-again, index-then, enough-room, left-built, left-plain}
 use Rattle.rewind_records.specs.Environment.{Environment, environmentOf, rewindRefusal}
-use Rattle.rewind_records.specs.Turning.{turning}
 use Rattle.rewind.specs.Stepping.{forwardTable}
-use Rattle.rewind.specs.Written.{steppedWithText}
 use Rattle.rewind.specs.declared.Rewind.{Rewind}
-use Rattle.rewind_records.proofs.TurnLaws.{passed, turn-refused}
-use Rattle.rewind_run.specs.Running.{Run, runFrom, onward, running, runTable}
-use Rattle.rewind_run.specs.Promise.{RunAsks, RunLeaves, runOut, built, RunsIndexed}
+use Rattle.rewind_records.proofs.TurnLaws.{passed, tested-refused, tested-passed}
+use Rattle.rewind_run.specs.Running.{Run, testedRun, runTable}
+use Rattle.rewind_run.specs.Promise.{RunAsks, RunLeaves, runMade, runOut, RunsIndexed}
 use Rattle.rewind_run.specs.declared.RewindRun.{RewindRun}
-use Rattle.rewind_run.proofs.RunLaws.{stopAt, run-turn, run-none}
-use Rattle.rewind_run.specs.Indexing.{indexes}
+use Rattle.rewind_run.specs.declared.RunAnswer.{RunAnswer}
+use Rattle.rewind_run.specs.declared.RunAnswer.the-variants.{Ran, Refused}
+
+-- a choice between two that are the same
+chosen : {A : Type 0} (b : Bool) (x : A) → x ≡ cond b x x
+chosen b x = cond-cases (λ y. x ≡ y) b (λ _. refl) (λ _. refl)
+
+-- what a call that is refused leaves in the words for an index, with enough of them or not
+pub left-refused : (slots : ℕ) (o : Outcome Table) (heads nexts : List ℕ) {n : ℕ} → o ≡ refused n → (heads ≡ headsLeft slots o heads nexts) × (nexts ≡ nextsLeft slots o heads nexts)
+left-refused slots o heads nexts e = (rw e (chosen (enough slots heads nexts) heads), rw e (chosen (enough slots heads nexts) nexts))
 
 module _ (journal image records words : List ℕ) (r : Rewind) (heads nexts ends text : List ℕ) where
   abbrev t : Table
@@ -34,51 +39,41 @@ module _ (journal image records words : List ℕ) (r : Rewind) (heads nexts ends
   env = environmentOf journal image records
 
   abbrev all : Run
-  all = runOut journal image records words r heads nexts ends text
+  all = runMade journal image records words r heads nexts ends text
 
-  abbrev isBuilt : Bool
-  isBuilt = built journal image records words r heads nexts ends text
+  abbrev out : Outcome Run
+  out = runOut journal image records words r heads nexts ends text
 
-  abbrev Answers : RewindRun → List ℕ → List ℕ → List ℕ → List ℕ → List ℕ → Type 0
+  abbrev isEnough : Bool
+  isEnough = enough (slotsIn words) heads nexts
+
+  abbrev Answers : RunAnswer → List ℕ → List ℕ → List ℕ → List ℕ → List ℕ → Type 0
   Answers = RunsIndexed journal image records words r heads nexts ends text
 
   abbrev Runs : List ℕ → List ℕ → RewindRun → List ℕ → List ℕ → List ℕ → List ℕ → List ℕ → Type 0
   Runs h n = RunLeaves journal image records words r h n ends text
 
-  -- no step is made
-  still : (k : ℕ) → all ≡ stopAt words (r .used) (r .position) [] [] k → isBuilt ≡ false → Answers (record { steps = 0; refusal = k; rewind = r }) words heads nexts ends text
-  still k e b = record { answer = rw e; forward = rw e; heads-are = rw (e, b); nexts-are = rw (e, b); ends-are = rw e; text-is = rw e }
+  module _ {n : ℕ} (e : n ≡ rewindRefusal env t) where
+    refused-all : (n ≡ 0 → ⊥) → out ≡ refused n
+    unfolding testedRun
+    refused-all h = tested-refused env t (answered all) e h
 
-  pub run-zero : length ends ≡ 0 → Answers (record { steps = 0; refusal = 0; rewind = r }) words heads nexts ends text
-  unfolding indexes
-  run-zero z =
-      still 0 (ap (λ (k : ℕ). running journal image records (length text) k (runFrom words r)) z ∙ run-none journal image records (length text) (runFrom words r)) (rw z)
-
-  module _ {n : ℕ} (e : n ≡ rewindRefusal env t) (some : 0 < length ends) where
-    pub run-refused : (n ≡ 0 → ⊥) → Answers (record { steps = 0; refusal = n; rewind = r }) words heads nexts ends text
-    unfolding indexes
+    -- also where no step is asked for
+    pub run-refused : (n ≡ 0 → ⊥) → Answers (Refused n) words heads nexts ends text
     run-refused h =
-        let room : ℕ = length text in
-        let k : ℕ = length ends - 1 in
-        let fuel : length ends ≡ suc k = omega arith in
-        let o : steppedWithText journal image records words r (room - 0) ≡ refused n =
-        (let q : turning env t (r .position) ≡ refused n = sym (turn-refused journal records (length image) (r .position) t e h) in rw q) in
-        let b : eqb (rewindRefusal env t) 0 ≡ false = ne-eqb _ _ (λ z. h (e ∙ z)) in
-        still n
-        (ap (λ (j : ℕ). running journal image records room j (runFrom words r)) fuel
-        ∙ run-turn journal image records room k (runFrom words r)
-        ∙ ap (onward (running journal image records room k) journal image (runFrom words r)) o)
-        (rw (lt-ltb 0 (length ends) some, b))
+        let o = refused-all h in
+        let left = left-refused (slotsIn words) (mapOutcome runTable out) heads nexts (ap (mapOutcome runTable) o) in
+        record { answer = rw o; forward = rw o; heads-are = left .0; nexts-are = left .1; ends-are = rw o; text-is = rw o }
 
     module _ (h : n ≡ 0) where
       run-tests : rewindRefusal env t ≡ 0
       run-tests = sym e ∙ h
 
-      is-built : isBuilt ≡ enough (slotsIn words) heads nexts
-      unfolding indexes
-      is-built = rw (lt-ltb 0 (length ends) some, run-tests)
+      answered-all : out ≡ answered all
+      unfolding testedRun
+      answered-all = tested-passed env t (answered all) e h
 
-      module _ {b : Bool} (f : b ≡ enough (slotsIn words) heads nexts) (g : b ≡ true) where
+      module _ {b : Bool} (f : b ≡ isEnough) (g : b ≡ true) where
         wide : slotsIn words ≤ length nexts
         wide = enough-room (slotsIn words) heads nexts (sym f ∙ g)
 
@@ -89,25 +84,33 @@ module _ (journal image records words : List ℕ) (r : Rewind) (heads nexts ends
           pub run-asks : RunAsks journal image records words r h₁ n₁
           run-asks = record { passes = run-tests; index = index-again (length heads) t nexts eh en; wide = λ _. omega (arith, wide, nexts-long (length heads) t nexts eh en) }
 
-          pub run-built : {a : RewindRun} {w h′ n′ e′ x : List ℕ} → Runs h₁ n₁ a w h′ n′ e′ x → Answers a w h′ n′ e′ x
+          pub run-built : {a : RewindRun} {w h′ n′ e′ x : List ℕ} → Runs h₁ n₁ a w h′ n′ e′ x → Answers (Ran a) w h′ n′ e′ x
           run-built c =
               let both = index-then (length heads) t nexts eh en {u = runTable all} {o = answered (runTable all)} refl (c .heads-are) (c .nexts-are) in
-              let b′ = is-built ∙ sym f ∙ g in
-              record { answer = c .answer; forward = c .forward; heads-are = rw b′ (both .0); nexts-are = rw b′ (both .1); ends-are = c .ends-are; text-is = c .text-is }
+              let left = left-built (slotsIn words) (answered (runTable all)) heads nexts (sym f ∙ g) both in
+              let q = answered-all in
+              record {
+                answer = rw (q, c .answer);
+                forward = rw q (c .forward);
+                heads-are = rw q (left .0);
+                nexts-are = rw q (left .1);
+                ends-are = rw q (c .ends-are);
+                text-is = rw q (c .text-is);
+              }
 
-      module _ {b : Bool} (f : b ≡ enough (slotsIn words) heads nexts) (g : b ≡ false) where
+      module _ {b : Bool} (f : b ≡ isEnough) (g : b ≡ false) where
         pub plain-asks : RunAsks journal image records words r [] nexts
         plain-asks = record { passes = run-tests; index = (no-heads 0 t [] (omega arith) refl, no-nexts 0 t nexts (omega arith)); wide = λ p. absurd (omega arith) }
 
-        pub run-plain : {a : RewindRun} {w h′ n′ e′ x : List ℕ} → Runs [] nexts a w h′ n′ e′ x → Answers a w (h′ ++ heads) n′ e′ x
-        run-plain {h′ = h′} c =
-            let none : h′ ≡ [] = c .heads-are ∙ sym (no-heads 0 (runTable all) [] (omega arith) refl) in
-            let b′ = is-built ∙ sym f ∙ g in
+        pub run-plain : {a : RewindRun} {w h′ n′ e′ x : List ℕ} → Runs [] nexts a w h′ n′ e′ x → Answers (Ran a) w (h′ ++ heads) n′ e′ x
+        run-plain c =
+            let left = left-plain (slotsIn words) (answered (runTable all)) heads nexts (sym f ∙ g) (c .heads-are, c .nexts-are) in
+            let q = answered-all in
             record {
-              answer = c .answer;
-              forward = c .forward;
-              heads-are = rw b′ (ap (λ (l : List ℕ). l ++ heads) none);
-              nexts-are = rw b′ (c .nexts-are ∙ sym (no-nexts 0 (runTable all) nexts (omega arith)));
-              ends-are = c .ends-are;
-              text-is = c .text-is;
+              answer = rw (q, c .answer);
+              forward = rw q (c .forward);
+              heads-are = rw q (left .0);
+              nexts-are = rw q (left .1);
+              ends-are = rw q (c .ends-are);
+              text-is = rw q (c .text-is);
             }

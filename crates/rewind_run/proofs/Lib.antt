@@ -1,4 +1,5 @@
 pub mod StepLaws
+pub mod StopLaws
 pub mod RunLaws
 pub mod AsSteps
 pub mod CallLaws

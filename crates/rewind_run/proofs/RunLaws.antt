@@ -51,7 +51,7 @@ run-none journal image records room r = refl
 
 -- a run that stopped with a refusal, and one that has none so far
 abbrev pub stopAt : List ℕ → ℕ → ℕ → List ℕ → List ℕ → ℕ → Run
-stopAt words used position texts marks k = record { words = words; rewind = stateOf used position; text = texts; ends = marks; refusal = k }
+stopAt words used position texts marks k = record { words = words; rewind = stateOf used position; text = texts; ends = marks; stopped = k }
 
 abbrev pub nowAt : List ℕ → ℕ → ℕ → List ℕ → List ℕ → Run
 nowAt words used position texts marks = stopAt words used position texts marks 0
@@ -160,11 +160,11 @@ module _ (journal image records words₀ : List ℕ) (r₀ : Rewind) (heads₀ n
 
     -- a run that stands here and is over
     over : (k : ℕ) → all ≡ stopAt words used position (w .texts) (w .marks) k → {f h n x : List ℕ} → f ≡ words → h ≡ headsOf (length heads) (table words used)
-        → n ≡ nextsOf (length heads) (table words used) nexts → x ≡ text → Runs (record { steps = i; refusal = k; rewind = stateOf used position }) f h n ends x
+        → n ≡ nextsOf (length heads) (table words used) nexts → x ≡ text → Runs (record { steps = i; stopped = k; rewind = stateOf used position }) f h n ends x
     over k e {f} {h} {n} {x} ef eh en ex =
         let both = anew (table words used) eh en in
         record {
-          answer = rw e (ap (λ (j : ℕ). record { steps = j; refusal = k; rewind = stateOf used position }) (w .i-is));
+          answer = rw e (ap (λ (j : ℕ). record { steps = j; stopped = k; rewind = stateOf used position }) (w .i-is));
           forward = rw e ef;
           heads-are = rw e (both .0);
           nexts-are = rw e (both .1);
@@ -173,7 +173,7 @@ module _ (journal image records words₀ : List ℕ) (r₀ : Rewind) (heads₀ n
         }
 
     -- all that were asked for are made
-    pub going-all : length ends ≤ i → Runs (record { steps = i; refusal = 0; rewind = stateOf used position }) words heads nexts ends text
+    pub going-all : length ends ≤ i → Runs (record { steps = i; stopped = 0; rewind = stateOf used position }) words heads nexts ends text
     going-all h =
         let n : 0 ≡ asked - i = omega (arith, w .ends-long) in
         over 0 (sym (sym (run-none journal image records room now) ∙ ap (λ (k : ℕ). running journal image records room k now) n ∙ w .leads)) refl
@@ -200,14 +200,14 @@ module _ (journal image records words₀ : List ℕ) (r₀ : Rewind) (heads₀ n
 
       -- by what the step answers
       pub going-end : {a : Made} {f h n way x : List ℕ} → a ≡ End → StepLeaves journal image at (length heads) nexts text o (table words used) a f h n way x
-          → Runs (record { steps = i; refusal = 0; rewind = stateOf used position }) f h n ends x
+          → Runs (record { steps = i; stopped = 0; rewind = stateOf used position }) f h n ends x
       going-end g c =
           let e : o ≡ answered ended = ended-of journal image at o (sym g ∙ c .answer) in
           let d = rw e at c in
           over 0 (turned e) (d .forward) (d .heads-are) (d .nexts-are) (d .text-is)
 
       pub going-refused : {a : Made} {k : ℕ} {f h n way x : List ℕ} → a ≡ Refused k → StepLeaves journal image at (length heads) nexts text o (table words used) a f h n way x
-          → Runs (record { steps = i; refusal = k; rewind = stateOf used position }) f h n ends x
+          → Runs (record { steps = i; stopped = k; rewind = stateOf used position }) f h n ends x
       going-refused {k = k} g c =
           let e : o ≡ refused k = refused-of journal image at o (sym g ∙ c .answer) in
           let d = rw e at c in

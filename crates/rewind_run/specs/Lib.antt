@@ -1,4 +1,4 @@
 pub mod Running
+pub mod Stopping
 pub mod Calls
-pub mod Indexing
 pub mod Promise

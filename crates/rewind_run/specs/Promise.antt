@@ -4,20 +4,21 @@ use mathlib.Core.Path.{_≡_}
 use mathlib.Core.List.{List}
 use lib.ListN.{length}
 use Rattle.walk.specs.Lent.{Lent, before, after}
-use Rattle.walk.specs.Lists.{overwrite}
+use Rattle.walk.specs.Lists.{overwrite, listAfter}
+use Rattle.walk.specs.Outcome.{Outcome, mapOutcome}
 use Rattle.entry_slots.specs.Slots.{slotsIn}
-use Rattle.entry_slots.specs.Index.{headsOf, nextsOf, Indexed}
+use Rattle.entry_slots.specs.Table.{Table}
+use Rattle.entry_slots.specs.Index.{headsOf, nextsOf, Indexed, headsLeft, nextsLeft}
 use Rattle.rewind_records.specs.Environment.{environmentOf, rewindRefusal}
 use Rattle.rewind.specs.Stepping.{forwardTable}
 use Rattle.rewind.specs.Written.{steppedWithText}
 use Rattle.rewind.specs.declared.Rewind.{Rewind}
 use Rattle.rewind_steps.specs.Promise.{StepPromise}
-use Rattle.rewind_run.specs.Running.{Run, ran, runAnswer, runTable}
+use Rattle.rewind_run.specs.Running.{Run, ran, testedRun, runAnswer, runTable, wordsRun, runOutcome}
 use Rattle.rewind_run.specs.declared.RewindRun.{RewindRun}
+use Rattle.rewind_run.specs.declared.RunAnswer.{RunAnswer}
 use Rattle.rewind_steps.specs.declared.Made.{Made}
 use Rattle.rewind_run.specs.declared.steps.Standing.{Standing}
-use mathlib.Core.Bool.{Bool}
-use Rattle.rewind_run.specs.Indexing.{indexes, headsRun, nextsRun}
 
 -- what the tests before a run have shown: none refuses, and the index is the forward table's, with a link for every slot
 pub record RunAsks (journal image records words : List ℕ) (rewind : Rewind) (heads nexts : List ℕ) : Type 0 where
@@ -31,35 +32,38 @@ RunStepPromise journal image forward heads nexts way text records standing =
     let o = steppedWithText (before journal) (before image) (before records) (before forward) (standing .rewind) (length (before text) - standing .at) in
     StepPromise journal image forward heads nexts way text (standing .at) o (forwardTable (before forward) (standing .rewind))
 
--- many steps: what they come to, and what is left of them where the tests have passed
+-- many steps: their run, and what is left of it where the tests have passed
 module _ (journal image records words : List ℕ) (rewind : Rewind) (heads nexts ends text : List ℕ) where
-  abbrev pub runOut : Run
-  runOut = ran journal image records words rewind (length text) (length ends)
+  abbrev pub runMade : Run
+  runMade = ran journal image records words rewind (length text) (length ends)
 
   pub record RunLeaves (r : RewindRun) (words′ heads′ nexts′ ends′ text′ : List ℕ) : Type 0 where
-    pub answer : r ≡ runAnswer runOut
-    pub forward : words′ ≡ runOut .words
-    pub heads-are : heads′ ≡ headsOf (length heads) (runTable runOut)
-    pub nexts-are : nexts′ ≡ nextsOf (length heads) (runTable runOut) nexts
-    pub ends-are : ends′ ≡ overwrite ends (runOut .ends)
-    pub text-is : text′ ≡ overwrite text (runOut .text)
+    pub answer : r ≡ runAnswer runMade
+    pub forward : words′ ≡ runMade .words
+    pub heads-are : heads′ ≡ headsOf (length heads) (runTable runMade)
+    pub nexts-are : nexts′ ≡ nextsOf (length heads) (runTable runMade) nexts
+    pub ends-are : ends′ ≡ overwrite ends (runMade .ends)
+    pub text-is : text′ ≡ overwrite text (runMade .text)
 
-  -- of the call: whether an index is built for the steps, and what is left by both
-  abbrev pub built : Bool
-  built = indexes journal image records words rewind (length ends) heads nexts
+  -- the call: what it comes to, its answer, and what is left by it, with the index of the forward table at its end where words for one are enough
+  abbrev pub runOut : Outcome Run
+  runOut = testedRun journal image records words rewind (length text) (length ends)
 
-  pub record RunsIndexed (r : RewindRun) (words′ heads′ nexts′ ends′ text′ : List ℕ) : Type 0 where
-    pub answer : r ≡ runAnswer runOut
-    pub forward : words′ ≡ runOut .words
-    pub heads-are : heads′ ≡ headsRun built runOut heads
-    pub nexts-are : nexts′ ≡ nextsRun built runOut heads nexts
-    pub ends-are : ends′ ≡ overwrite ends (runOut .ends)
-    pub text-is : text′ ≡ overwrite text (runOut .text)
+  abbrev pub tableOut : Outcome Table
+  tableOut = mapOutcome runTable runOut
+
+  pub record RunsIndexed (r : RunAnswer) (words′ heads′ nexts′ ends′ text′ : List ℕ) : Type 0 where
+    pub answer : runOutcome r ≡ mapOutcome runAnswer runOut
+    pub forward : words′ ≡ wordsRun runOut words
+    pub heads-are : heads′ ≡ headsLeft (slotsIn words) tableOut heads nexts
+    pub nexts-are : nexts′ ≡ nextsLeft (slotsIn words) tableOut heads nexts
+    pub ends-are : ends′ ≡ listAfter (λ (x : Run). x .ends) runOut ends
+    pub text-is : text′ ≡ listAfter (λ (x : Run). x .text) runOut text
 
 abbrev pub StepsPromise : Lent → Lent → Lent → Rewind → Lent → Lent → Lent → Lent → Lent → RewindRun → Type 0
 StepsPromise journal image records rewind forward heads nexts ends text r =
     RunLeaves (before journal) (before image) (before records) (before forward) rewind (before heads) (before nexts) (before ends) (before text) r (after forward) (after heads) (after nexts) (after ends) (after text)
 
-abbrev pub RunPromise : Lent → Lent → Lent → Rewind → Lent → Lent → Lent → Lent → Lent → RewindRun → Type 0
+abbrev pub RunPromise : Lent → Lent → Lent → Rewind → Lent → Lent → Lent → Lent → Lent → RunAnswer → Type 0
 RunPromise journal image records rewind forward heads nexts ends text r =
     RunsIndexed (before journal) (before image) (before records) (before forward) rewind (before heads) (before nexts) (before ends) (before text) r (after forward) (after heads) (after nexts) (after ends) (after text)

@@ -121,14 +121,14 @@ pub(crate) fn run(
             Made::End => {
                 return RewindRun {
                     steps: i,
-                    refusal: 0,
+                    stopped: 0,
                     rewind: Rewind { used, position },
                 };
             }
             Made::Refused(n) => {
                 return RewindRun {
                     steps: i,
-                    refusal: n,
+                    stopped: n,
                     rewind: Rewind { used, position },
                 };
             }
@@ -136,7 +136,7 @@ pub(crate) fn run(
     }
     RewindRun {
         steps: i,
-        refusal: 0,
+        stopped: 0,
         rewind: Rewind { used, position },
     }
 }

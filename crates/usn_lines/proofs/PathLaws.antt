@@ -1,31 +1,34 @@
 -- The next record's path by a run of one step: what the step comes to, and what it leaves. Assumes nothing.
-use Prim.Native.Nat.{ℕ, zero, suc, _+_, _-_, _≤_, _<_}
+use Prim.Native.Nat.{ℕ, _+_, _≤_}
 use mathlib.Core.Path.{_≡_, refl, ap, sym, _∙_}
 use mathlib.Core.List.{List, [], _∷_, _++_, map}
 use mathlib.Core.Bool.{Bool, true, false}
 use native.Mathlib.Nat.{sub-zero}
 use native.Mathlib.Omega.{arith}
-use borrow.Author.Tests.{ltb-false}
-use lib.Dec.{ltb}
-use lib.ListN.{length, length-append, getD, take, drop, length-take, take-append-drop}
+use borrow.Author.Tests.{ltb-false, eqb-true, eqb-false}
+use lib.Dec.{ltb, eqb}
+use lib.ListN.{length, getD, take, drop, take-append-drop}
 use lib.Seq.{sets, length-take-le}
 use Rattle.walk.specs.Lists.{overwrite}
 use Rattle.walk.specs.Outcome.{Outcome, refused, answered}
 use Rattle.walk.proofs.ChoiceLaws.{cond-cases}
-use Rattle.walk.proofs.ListLaws.{sets-front}
 use Rattle.path_text.specs.Decoding.{withText}
+use Rattle.rewind_records.specs.Environment.{environmentOf, rewindRefusal}
 use Rattle.rewind_records.specs.Turning.{Next, ended, next}
 use Rattle.rewind_steps.specs.Taking.{Step}
 use Rattle.rewind_steps.specs.StepText.{recordText, nextText}
-use Rattle.rewind.specs.Stepping.{stepped}
+use Rattle.rewind.specs.Stepping.{stepped, forwardTable}
 use Rattle.rewind.specs.Written.{steppedWithText}
 use Rattle.rewind.specs.declared.Rewind.{Rewind}
-use Rattle.rewind_run.specs.Running.{Run, runFrom, onward as runOn, running, ran}
+use Rattle.rewind_run.specs.Running.{Run, runFrom, onward as runOn, running, ran, runOutcome}
 use Rattle.rewind_run.specs.Promise.{RunsIndexed}
 use Rattle.rewind_run.specs.declared.RewindRun.{RewindRun}
+use Rattle.rewind_run.specs.declared.RunAnswer.{RunAnswer}
+use Rattle.rewind_run.specs.declared.RunAnswer.the-variants.{Refused}
+use Rattle.rewind_run.proofs.AsSteps.{answered-run, refused-run, step-refused}
 use Rattle.usn_fields.specs.Line.{questionMark, shownByte, shownTo}
 use Rattle.usn_lines.specs.Listing.{Standing, standing, shownPath, onward, pathOf}
-use Rattle.usn_lines.specs.Promise.{Puts, Passes}
+use Rattle.usn_lines.specs.Promise.{Puts, Passes, runOr}
 use Rattle.usn_fields.proofs.ShownLaws.{shown-front, length-shown}
 
 -- an answer with text is an answer without, whose text has room
@@ -37,6 +40,10 @@ told-step journal room (answered a) x =
     (ltb room (length (nextText journal [] a)))
     (λ _ e. let z : _≡_ {A = ℕ} 0 1 = cc in absurd (omega arith))
     (λ f e. let same : a ≡ next x = cc in (e, rw same at (ltb-false room (length (nextText journal [] a)) f)))
+
+-- a call that is refused has made no step
+pub none-ran : (r : Rewind) {y : RunAnswer} {n : ℕ} → y ≡ Refused n → record { steps = 0; stopped = 0; rewind = r } ≡ runOr r (runOutcome y)
+none-ran r e = rw e
 
 module _ (journal records words : List ℕ) (r : Rewind) where
   -- a run of one step, by what that comes to
@@ -67,34 +74,74 @@ module _ (journal records words : List ℕ) (r : Rewind) where
   abbrev s : Standing
   s = standing words r
 
-  module _ (text : List ℕ) (h : 65536 ≤ length text) {heads nexts : List ℕ} {a : RewindRun} {words′ heads′ nexts′ ends′ part′ : List ℕ}
-      (p : RunsIndexed journal [] records words r heads nexts (0 ∷ []) (take 65536 text) a words′ heads′ nexts′ ends′ part′) where
+  -- what a call leaves that is asked for one step, by what that comes to: where the call is refused, the step is
+  record One (room : ℕ) (part : List ℕ) (a : RewindRun) (words′ ends′ part′ : List ℕ) : Type 0 where
+    steps-are : a .steps ≡ length (one (steppedWithText journal [] records words r room) .ends)
+    state-is : a .rewind ≡ one (steppedWithText journal [] records words r room) .rewind
+    words-are : words′ ≡ one (steppedWithText journal [] records words r room) .words
+    ends-are : ends′ ≡ overwrite (0 ∷ []) (one (steppedWithText journal [] records words r room) .ends)
+    part-is : part′ ≡ overwrite part (one (steppedWithText journal [] records words r room) .text)
+
+  abbrev tests : ℕ
+  tests = rewindRefusal (environmentOf journal [] records) (forwardTable words r)
+
+  one-ran : (part heads nexts : List ℕ) {y : RunAnswer} {a : RewindRun} {words′ heads′ nexts′ ends′ part′ : List ℕ}
+      → RunsIndexed journal [] records words r heads nexts (0 ∷ []) part y words′ heads′ nexts′ ends′ part′ → a ≡ runOr r (runOutcome y)
+      → One (length part) part a words′ ends′ part′
+  one-ran part heads nexts {y} {a} {words′} {heads′} {nexts′} {ends′} {part′} p m = go (eqb tests 0) refl
+    where
+      go : (b : Bool) → eqb tests 0 ≡ b → One (length part) part a words′ ends′ part′
+      go true e =
+          let q = answered-run journal [] records words r (length part) 1 (eqb-true _ _ e) ∙ ap answered (ran-one (length part)) in
+          let f = m ∙ ap (runOr r) (rw q at (p .answer)) in
+          record {
+            steps-are = ap (λ (x : RewindRun). x .steps) f;
+            state-is = ap (λ (x : RewindRun). x .rewind) f;
+            words-are = rw q at (p .forward);
+            ends-are = rw q at (p .ends-are);
+            part-is = rw q at (p .text-is);
+          }
+      go false e =
+          let k = eqb-false _ _ e in
+          let q = refused-run journal [] records words r (length part) 1 k in
+          let f = m ∙ ap (runOr r) (rw q at (p .answer)) in
+          let o = step-refused journal [] records words r (length part) 1 k (length part) in
+          record {
+            steps-are = rw o (ap (λ (x : RewindRun). x .steps) f);
+            state-is = rw o (ap (λ (x : RewindRun). x .rewind) f);
+            words-are = rw o (rw q at (p .forward));
+            ends-are = rw o (rw q at (p .ends-are));
+            part-is = rw o (rw q at (p .text-is));
+          }
+
+  module _ (text : List ℕ) (h : 65536 ≤ length text) {heads nexts : List ℕ} {y : RunAnswer} {a : RewindRun} {words′ heads′ nexts′ ends′ part′ : List ℕ}
+      (c : RunsIndexed journal [] records words r heads nexts (0 ∷ []) (take 65536 text) y words′ heads′ nexts′ ends′ part′) (m : a ≡ runOr r (runOutcome y)) where
     abbrev out : Run
     out = one (steppedWithText journal [] records words r 65536)
 
-    run-is : ran journal [] records words r (length (take 65536 text)) 1 ≡ out
-    run-is = ap (λ (k : ℕ). ran journal [] records words r k 1) (length-take-le 65536 text h) ∙ ran-one 65536
+    p : One 65536 (take 65536 text) a words′ ends′ part′
+    p = rw (length-take-le 65536 text h) at (one-ran (take 65536 text) heads nexts c m)
 
     module _ (z : a .steps ≡ 0) where
       none : (out .words ≡ words) × ((out .text ≡ []) × (shownPath journal (steppedWithText journal [] records words r 65536) ≡ questionMark ∷ []))
-      none = none-made (steppedWithText journal [] records words r 65536) (sym (ap (λ (q : RewindRun). q .steps) (p .answer) ∙ ap (λ (q : Run). length (q .ends)) run-is) ∙ z)
+      none = none-made (steppedWithText journal [] records words r 65536) (sym (p .steps-are) ∙ z)
 
       none-part : part′ ≡ take 65536 text
-      none-part = p .text-is ∙ ap (λ (q : Run). overwrite (take 65536 text) (q .text)) run-is ∙ ap (overwrite (take 65536 text)) (none .1 .0)
+      none-part = p .part-is ∙ ap (overwrite (take 65536 text)) (none .1 .0)
 
       none-text : part′ ++ drop 65536 text ≡ text
       none-text = ap (λ (l : List ℕ). l ++ drop 65536 text) none-part ∙ take-append-drop 65536 text
 
       none-words : words′ ≡ words
-      none-words = p .forward ∙ ap (λ (q : Run). q .words) run-is ∙ none .0
+      none-words = p .words-are ∙ none .0
 
       -- a question mark, and the record is passed
       pub path-none : {e : ℕ} {v : List ℕ} {q : Rewind} {w : List ℕ} → (e ≡ 0 + 1) × (v ≡ sets (part′ ++ drop 65536 text) 0 (questionMark ∷ []))
           → Passes (onward journal records (standing words′ r)) q w
           → Puts text (pathOf journal records s) 65536 (onward journal records s) (record { end = e; rewind = q }) w v
       unfolding pathOf
-      path-none {e} {v} {q} {w} b c =
-          let d : Passes (onward journal records s) q w = rw none-words at c in
+      path-none {e} {v} {q} {w} b g =
+          let d : Passes (onward journal records s) q w = rw none-words at g in
           let shown = none .1 .1 in
           record {
             end-is = b .0 ∙ ap length (sym shown);
@@ -105,11 +152,8 @@ module _ (journal records words : List ℕ) (r : Rewind) where
           }
 
     module _ (z : a .steps ≡ 0 → ⊥) where
-      steps-are : a .steps ≡ length (out .ends)
-      steps-are = ap (λ (q : RewindRun). q .steps) (p .answer) ∙ ap (λ (q : Run). length (q .ends)) run-is
-
       some : (C : Type 0) → ((x : Step) → steppedWithText journal [] records words r 65536 ≡ answered (next x) → C) → C
-      some = one-made (steppedWithText journal [] records words r 65536) (λ f. z (steps-are ∙ f))
+      some = one-made (steppedWithText journal [] records words r 65536) (λ f. z (p .steps-are ∙ f))
 
       -- what the run leaves, by the step that it made
       module _ (x : Step) (f : steppedWithText journal [] records words r 65536 ≡ answered (next x)) where
@@ -119,14 +163,14 @@ module _ (journal records words : List ℕ) (r : Rewind) where
         step : (stepped journal [] records words r ≡ answered (next x)) × (length told-text ≤ 65536)
         step = told-step journal 65536 (stepped journal [] records words r) x f
 
-        out-is : ran journal [] records words r (length (take 65536 text)) 1 ≡ one (answered (next x))
-        out-is = run-is ∙ ap one f
+        out-is : out ≡ one (answered (next x))
+        out-is = ap one f
 
         end-is : getD ends′ 0 0 ≡ length told-text
         end-is = ap (λ (l : List ℕ). getD l 0 0) (p .ends-are ∙ ap (λ (q : Run). overwrite (0 ∷ []) (q .ends)) out-is)
 
         part-is : part′ ≡ overwrite (take 65536 text) told-text
-        part-is = p .text-is ∙ ap (λ (q : Run). overwrite (take 65536 text) (q .text)) out-is
+        part-is = p .part-is ∙ ap (λ (q : Run). overwrite (take 65536 text) (q .text)) out-is
 
         onward-is : onward journal records s ≡ standing (x .table .words) (record { used = x .table .used; position = r .position + 1 })
         unfolding onward
@@ -142,8 +186,8 @@ module _ (journal records words : List ℕ) (r : Rewind) where
               end-is = end-is ∙ sym sized ∙ ap length (sym shown);
               written = e ∙ rw (end-is, part-is) (shown-front 65536 text told-text (step .1) h) ∙ ap (sets text 0) (sym shown);
               fits = omega (arith, end-is, step .1);
-              state = ap (λ (q : RewindRun). q .rewind) (p .answer) ∙ ap (λ (q : Run). q .rewind) out-is ∙ ap (λ (q : Standing). q .rewind) (sym onward-is);
-              forward = p .forward ∙ ap (λ (q : Run). q .words) out-is ∙ ap (λ (q : Standing). q .words) (sym onward-is);
+              state = p .state-is ∙ ap (λ (q : Run). q .rewind) out-is ∙ ap (λ (q : Standing). q .rewind) (sym onward-is);
+              forward = p .words-are ∙ ap (λ (q : Run). q .words) out-is ∙ ap (λ (q : Standing). q .words) (sym onward-is);
             }
 
       pub path-end : getD ends′ 0 0 ≤ 65536

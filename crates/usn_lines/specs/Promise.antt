@@ -2,12 +2,14 @@
 -- takes the call's parameters.
 use Prim.Native.Nat.{ℕ, _*_, _≤_}
 use mathlib.Core.Path.{_≡_}
-use mathlib.Core.List.{List, []}
+use mathlib.Core.List.{List}
 use lib.ListN.{length, take}
 use lib.Seq.{sets}
 use Rattle.walk.specs.Lent.{Lent, before, after}
 use Rattle.usn_journal.specs.Scan.{scanned}
+use Rattle.walk.specs.Outcome.{Outcome, refused, answered}
 use Rattle.rewind.specs.declared.Rewind.{Rewind}
+use Rattle.rewind_run.specs.declared.RewindRun.{RewindRun}
 use Rattle.usn_lines.specs.Listing.{Standing, standing, mostPath, onward, pathOf, line, part, afterPart, listOf, begins}
 use Rattle.usn_lines.specs.declared.Begun.{Begun}
 use Rattle.usn_lines.specs.declared.Put.{Put}
@@ -32,6 +34,11 @@ pub record Passes (s : Standing) (r : Rewind) (words′ : List ℕ) : Type 0 whe
 abbrev pub PassPromise : Lent → Lent → Rewind → Lent → Rewind → Type 0
 PassPromise journal records rewind forward r =
     Passes (onward (before journal) (before records) (standing (before forward) rewind)) r (after forward)
+
+-- the run that a call answers, or one of no steps where it is refused
+abbrev pub runOr : Rewind → Outcome RewindRun → RewindRun
+runOr r (refused n) = record { steps = 0; stopped = 0; rewind = r }
+runOr r (answered x) = x
 
 -- the next record's path
 abbrev pub PathPromise : Lent → Lent → Rewind → Lent → Lent → Put → Type 0

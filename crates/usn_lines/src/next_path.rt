@@ -1,7 +1,9 @@
 // The path of the next record into a text, as it is shown.
 ghost use Prim.Native.Nat.{_≤_};
 ghost use lib.ListN.{length};
-ghost use Rattle.usn_lines.specs.Promise.{PassPromise, PathPromise};
+ghost use mathlib.Core.Path.{_≡_};
+ghost use Rattle.rewind_run.specs.Running.{runOutcome};
+ghost use Rattle.usn_lines.specs.Promise.{PassPromise, PathPromise, runOr};
 use crate::Put;
 use additions::entries::replaces_forward;
 use entry_table::Stored;
@@ -9,6 +11,8 @@ use entry_table::adding::add;
 use rewind::Rewind;
 use rewind_records::turn::Turn;
 use rewind_records::turn::next_record;
+use rewind_run::RewindRun;
+use rewind_run::RunAnswer;
 use rewind_run::rewind_run;
 use usn_fields::shown::show;
 use utf16::plain::put_byte;
@@ -32,7 +36,7 @@ pub(crate) fn put_path(
     let mut heads: [u64; 0] = [];
     let mut nexts: [u64; 0] = [];
     let mut ends = [0u64; 1];
-    let run = rewind_run(
+    let answer = rewind_run(
         journal,
         b"",
         records,
@@ -43,6 +47,7 @@ pub(crate) fn put_path(
         &mut ends,
         &mut text[..MOST_PATH],
     );
+    let run = run_or(rewind, answer);
     if run.steps == 0 {
         let end = put_byte(text, 0, b'?');
         let passed = pass_record(journal, records, rewind, forward);
@@ -55,6 +60,20 @@ pub(crate) fn put_path(
     show(text, end);
     let next = run.rewind;
     Put { end, rewind: next }
+}
+
+// The run that a call answers, or one of no steps where it is refused.
+fn run_or(rewind: Rewind, answer: RunAnswer) -> RewindRun
+    ensures { λ r. ⌜ r ≡ runOr rewind (runOutcome answer) ⌝ }
+{
+    match answer {
+        RunAnswer::Ran(run) => run,
+        RunAnswer::Refused(_) => RewindRun {
+            steps: 0,
+            stopped: 0,
+            rewind,
+        },
+    }
 }
 
 // The next record goes into the forward table, and nothing is told of its path: what a step without text leaves.

@@ -2,11 +2,10 @@
 use Prim.Native.Nat.{ℕ}
 use mathlib.Core.Path.{_≡_}
 use mathlib.Core.List.{List}
-use mathlib.Core.Bool.{Bool}
 use Rattle.walk.specs.Lent.{Lent, before, after}
 use Rattle.walk.specs.Lists.{listAfter}
 use Rattle.walk.specs.Outcome.{Outcome, mapOutcome}
-use Rattle.usn_answers.specs.Answers.{number, unlessRefused}
+use Rattle.usn_answers.specs.Answers.{number}
 use Rattle.entry_slots.specs.Slots.{slotsIn}
 use Rattle.entry_slots.specs.Table.{Table}
 use Rattle.entry_slots.specs.Index.{headsLeft, nextsLeft}
@@ -16,9 +15,7 @@ use Rattle.rewind_steps.specs.StepText.{nextText}
 use Rattle.rewind.specs.Starting.{Tables, firstAfter, forwardAfter}
 use Rattle.rewind.specs.Stepping as step
 use Rattle.rewind.specs.declared.Rewind.{Rewind}
-use Rattle.rewind_run.specs.Running.{Run}
-use Rattle.rewind_run.specs.Indexing.{headsRun, nextsRun}
-use Rattle.rewind_run.specs.Promise.{runOut, built}
+use Rattle.rewind_run.specs.Running.{Run, runTable, wordsRun}
 use Rattle.volume_rewinds.specs.Rewind.{startCall, startWords, stepWords, chainStepWords, chainStepCall, pathStepWords, pathStepCall}
 use Rattle.volume_rewinds.specs.Run.{runCall, runWords}
 
@@ -73,22 +70,16 @@ StartIndexedCallPromise journal image records slots used forward heads nexts out
     let o = startCall (before journal) (before image) (before records) (before slots) used (before forward) (before out) in
     StartCalls o (before slots) (before forward) (before heads) (before nexts) (before out) r (after slots) (after forward) (after heads) (after nexts) (after out)
 
--- many steps
+-- many steps: the number, the words of the forward table and those of its index, the ends, the text, and the words of the answer
 module _ (journal image records words : List ℕ) (rewind : Rewind) (heads nexts ends text out : List ℕ) where
-  abbrev pub steps : Run
-  steps = runOut journal image records words rewind heads nexts ends text
-
-  abbrev pub isBuilt : Bool
-  isBuilt = built journal image records words rewind heads nexts ends text
-
   abbrev pub call : Outcome Run
   call = runCall journal image records rewind words ends text out
 
   pub record RunCalls (r : ℕ) (words′ heads′ nexts′ ends′ text′ out′ : List ℕ) : Type 0 where
     pub answer : r ≡ number call
-    pub forward : words′ ≡ unlessRefused call words (steps .words)
-    pub heads-are : heads′ ≡ unlessRefused call heads (headsRun isBuilt steps heads)
-    pub nexts-are : nexts′ ≡ unlessRefused call nexts (nextsRun isBuilt steps heads nexts)
+    pub forward : words′ ≡ wordsRun call words
+    pub heads-are : heads′ ≡ headsLeft (slotsIn words) (mapOutcome runTable call) heads nexts
+    pub nexts-are : nexts′ ≡ nextsLeft (slotsIn words) (mapOutcome runTable call) heads nexts
     pub ends-are : ends′ ≡ listAfter (λ (x : Run). x .ends) call ends
     pub text-is : text′ ≡ listAfter (λ (x : Run). x .text) call text
     pub told : out′ ≡ listAfter runWords call out

@@ -11,15 +11,22 @@
 ghost use mathlib.Core.Path.{_≡_};
 ghost use Rattle.volume_rewinds.specs.Promise.{StartCallPromise, NextChainCallPromise, NextCallPromise, StartIndexedCallPromise, RunCallPromise};
 ghost use Rattle.volume_rewinds.specs.Rewind.{rewindOf};
-ghost use Rattle.volume_rewinds.specs.Run.{rowOf};
+ghost use Prim.Native.Nat.{_≤_};
+ghost use lib.ListN.{length};
+ghost use Rattle.usn_answers.specs.Promise.{AnswerPromise};
+ghost use Rattle.rewind_run.specs.Running.{runOutcome};
+ghost use Rattle.volume_rewinds.specs.Run.{rowOf, shortNumber};
 use rewind::Rewind;
 use rewind_run::RewindRun;
+use rewind_run::RunAnswer;
 use volume_answers::rewinds::CHAIN_STEP_WORDS;
 use volume_answers::rewinds::PATH_STEP_WORDS;
 use volume_answers::rewinds::START_WORDS;
 use volume_answers::rewinds::put_chain_step;
 use volume_answers::rewinds::put_path_step;
 use volume_answers::rewinds::put_start;
+use walk::ABOVE_DOMAIN;
+use walk::DOMAIN;
 use walk::LIST_FULL;
 use walk::put_words;
 
@@ -151,9 +158,10 @@ pub extern "C" fn rewind_start_indexed(
 
 // As many steps of rewind_next as ends has words, with the texts one behind the other at the front of text, and in ends where each
 // of them ends; by way of an index in the words of heads and nexts, whatever they hold. And 4 words of out: how many steps were
-// made, 0 or the refusal of the step before which it stopped, and the state after the last one that was made. Fewer steps than
-// asked for and no refusal: no record is left.
-// Answers 0, or refuses: 5 out has fewer than 4 words.
+// made, 0 or what stopped it before the next one, and the state after the last one that was made. What stops it: 6 the record's key
+// is new and no slot is left, 8 what is left of the text is too small. Fewer steps than asked for and 0: no record is left.
+// Answers 0, or refuses, also where no step is asked for: 1 journal or image is above the domain, 5 out has fewer than 4 words, 9 used
+// is above the slots, 12 at a listed offset stands no record, 7 the name's place of a used slot is outside its slice.
 #[no_mangle]
 pub extern "C" fn rewind_run(
     journal: &[u8],
@@ -171,33 +179,61 @@ pub extern "C" fn rewind_run(
     ensures { λ r. ⌜ RunCallPromise journal image records (rewindOf used position) forward heads nexts ends text out r ⌝ }
 {
     if out.len() < RUN_WORDS {
-        return LIST_FULL;
+        return short_number(journal.len(), image.len());
     }
     let from = Rewind { used, position };
-    let run = rewind_run::rewind_run(
-        journal,
-        image,
-        records,
-        from,
-        forward,
-        heads,
-        nexts,
-        ends,
-        text,
-    );
-    let row = run_row(run);
-    put_words(out, 0, &row);
-    0
+    put_run(
+        rewind_run::rewind_run(
+            journal,
+            image,
+            records,
+            from,
+            forward,
+            heads,
+            nexts,
+            ends,
+            text,
+        ),
+        out,
+    )
 }
 
-// The answer of a run, a word each number.
+// The refusal of a call with too few words for its answer.
+fn short_number(journal_length: usize, image_length: usize) -> u32
+    ensures { λ r. ⌜ r ≡ shortNumber «journal_length» «image_length» ⌝ }
+{
+    if DOMAIN < journal_length {
+        return ABOVE_DOMAIN;
+    }
+    if DOMAIN < image_length {
+        return ABOVE_DOMAIN;
+    }
+    LIST_FULL
+}
+
+// The answer of a call: 0 with the words of its run in front of the lent ones, or the refusal.
+fn put_run(answer: RunAnswer, out: &mut [u64]) -> u32
+    requires { ⌜ 4 ≤ length (now out) ⌝ }
+    ensures { λ r. ⌜ AnswerPromise rowOf (runOutcome answer) out r ⌝ }
+{
+    match answer {
+        RunAnswer::Ran(run) => {
+            let row = run_row(run);
+            put_words(out, 0, &row);
+            0
+        }
+        RunAnswer::Refused(n) => n,
+    }
+}
+
+// A run, a word each number.
 fn run_row(run: RewindRun) -> [u64; 4]
     ensures { λ row. ⌜ row ≡ rowOf run ⌝ }
 {
     let rewind = run.rewind;
     [
         run.steps as u64,
-        run.refusal as u64,
+        run.stopped as u64,
         rewind.used as u64,
         rewind.position as u64,
     ]

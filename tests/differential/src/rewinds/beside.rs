@@ -174,7 +174,7 @@ impl<'a> Caller<'a> for Beside<'a> {
             out: self.random.between(RUN_WORDS - 1, RUN_WORDS + 1),
             index: sizes(forward.model.slots(), self.random.below(6)),
         };
-        run(&listed, &mut forward.clone(), state, asked)?;
+        let _ = run(&listed, &mut forward.clone(), state, asked)?;
         let answer = next(&listed, &mut forward, state, told, room)?;
         self.tally(answer.err());
         Ok(())

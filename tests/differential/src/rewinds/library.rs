@@ -34,7 +34,7 @@ pub const END: u64 = 0;
 pub const RECORD: u64 = 1;
 
 /// The words of a run's answer.
-pub const RUN_FIELDS: [&str; 4] = ["steps", "refusal", "used", "position"];
+pub const RUN_FIELDS: [&str; 4] = ["steps", "stopped", "used", "position"];
 
 /// How many these are.
 pub const RUN_WORDS: usize = RUN_FIELDS.len();

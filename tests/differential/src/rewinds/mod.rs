@@ -122,6 +122,7 @@ fn exhaustive(above: &[u8]) -> Result<u64, Difference> {
     group("offsets", edges::offsets())?;
     group("refused starts", refusals::starts(above))?;
     group("refused steps", refusals::steps(above))?;
+    group("refused runs", refusals::runs(above))?;
     group("domain", refusals::domain(above))?;
     Ok(number)
 }

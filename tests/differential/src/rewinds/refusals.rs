@@ -3,14 +3,18 @@
 use super::calls::{next, start, Both, Told};
 use super::edges::{Change, Journal};
 use super::histories::{CREATE, NEW_NAME, OLD_NAME, ROOT};
-use super::library::{State, START_WORDS};
+use super::library::{State, RUN_WORDS, START_WORDS};
 use super::model::Listed;
+use super::runs::{run, Asked};
+use super::whole::unexpected;
 use crate::difference::Finding;
-use crate::library::DOMAIN;
+use crate::library::{ABOVE_DOMAIN, BAD_NUMBERS, DOMAIN, NAME_OUTSIDE, NOT_LISTED, NO_ROOM};
+use crate::paths::index::sizes;
 use crate::paths::edges::under;
 use crate::paths::library::{Sources, SLOT_WORDS};
 use crate::paths::lists::Room;
 use crate::records::layout::V2;
+use std::collections::HashSet;
 
 /// Three records of two files, of which a table knows the first.
 const RECORDS: [Change; 3] = [
@@ -113,6 +117,47 @@ fn rooms(listed: &Listed, forward: &Both, state: State) -> Result<u64, Finding> 
         }
     }
     Ok(cases)
+}
+
+/// Runs likewise, with no ends lent and with some, and with words for an index and without: refused with 1, 5, 9, 12 and 7, each with
+/// ends and without, they leave every lent word as it was.
+pub fn runs(above: &[u8]) -> Result<u64, Finding> {
+    let (journal, lists) = journal();
+    let mut met = HashSet::new();
+    let mut cases = 0;
+    for names in slices(&journal.bytes, above) {
+        for list in &lists {
+            let listed = Listed::of(names, list);
+            for place in [[1, 0, 2], [1, 5, 2]] {
+                for slots in [2, 1, 3] {
+                    for used in [1, 0, 2, 4, usize::MAX] {
+                        for steps in [0, 1, 4] {
+                            for out in [RUN_WORDS, RUN_WORDS - 1, 0, RUN_WORDS + 2] {
+                                for turn in [0, 3] {
+                                    let state = State { used, position: 0 };
+                                    let asked = Asked {
+                                        steps,
+                                        text: 4,
+                                        out,
+                                        index: sizes(slots, turn),
+                                    };
+                                    let ran = run(&listed, &mut table(place, slots), state, asked)?;
+                                    met.extend(ran.err().map(|refusal| (refusal, steps > 0)));
+                                    cases += 1;
+                                }
+                            }
+                        }
+                    }
+                }
+            }
+        }
+    }
+    let refusals = [ABOVE_DOMAIN, NO_ROOM, BAD_NUMBERS, NOT_LISTED, NAME_OUTSIDE];
+    let all = refusals.map(|refusal| [(refusal, false), (refusal, true)]).concat();
+    match met == all.into_iter().collect() {
+        true => Ok(cases),
+        false => Err(unexpected("rewind_run", "refused by each of these", &format!("{met:?}"))),
+    }
 }
 
 /// Slices as long as the domain, with no record listed.

@@ -7,7 +7,7 @@ use super::model::{Listed, Next};
 use super::whole::unexpected;
 use crate::difference::Finding;
 use crate::lent::{untouched, BEHIND};
-use crate::library::{ACCEPTED, NO_ROOM, TEXT_TOO_SMALL};
+use crate::library::{ABOVE_DOMAIN, ACCEPTED, NO_ROOM, TEXT_TOO_SMALL};
 use crate::names::comparison::untouched_byte;
 use crate::paths::index::{sizes, Index};
 use crate::paths::lists::word_against;
@@ -27,25 +27,25 @@ pub struct Asked {
 #[derive(Debug)]
 pub struct Ran {
     pub state: State,
-    /// The refusal of the step before which it stopped, or 0.
-    pub refusal: u32,
+    /// 0, or what stopped it before the next step.
+    pub stopped: u32,
     text: Vec<u8>,
     ends: Vec<u64>,
 }
 
 impl Ran {
-    /// Step by step, each with the room that is left. The table goes on with them.
+    /// Step by step, each with the room that is left, where no test refuses. The table goes on with them.
     fn of(listed: &Listed, table: &mut Table, state: State, asked: Asked) -> Self {
         let mut ran = Self {
             state,
-            refusal: 0,
+            stopped: 0,
             text: Vec::new(),
             ends: Vec::new(),
         };
         while ran.ends.len() < asked.steps {
             match listed.next(table, ran.state) {
-                Err(refusal) => ran.refusal = refusal,
-                Ok(Next::Record(step)) if ran.text.len() + step.text.len() > asked.text => ran.refusal = TEXT_TOO_SMALL,
+                Err(refusal) => ran.stopped = refusal,
+                Ok(Next::Record(step)) if ran.text.len() + step.text.len() > asked.text => ran.stopped = TEXT_TOO_SMALL,
                 Ok(Next::End) => {}
                 Ok(Next::Record(step)) => {
                     *table = step.table;
@@ -65,20 +65,28 @@ impl Ran {
         let State { used, position } = self.state;
         vec![
             self.ends.len() as u64,
-            self.refusal.into(),
+            self.stopped.into(),
             used as u64,
             position as u64,
         ]
     }
 }
 
-/// A run on both, from a state; the forward table goes on with it. Gives what the scope answers, none where the words of answer are
-/// too few.
-pub fn run(listed: &Listed, forward: &mut Both, state: State, asked: Asked) -> Result<Option<Ran>, Finding> {
-    let tested = listed.tested(&forward.model, state.used).is_ok();
-    let expected = (asked.out >= RUN_WORDS).then(|| Ran::of(listed, &mut forward.model, state, asked));
-    let indexed = expected.as_ref().filter(|_| tested && asked.steps > 0);
-    let left = indexed.map(|ran| (&forward.model, ran.state.used));
+/// What a call comes to, also where no step is asked for: the words of answer are tested behind the domain and before all else.
+fn called(listed: &Listed, table: &mut Table, state: State, asked: Asked) -> Result<Ran, u32> {
+    match listed.tested(table, state.used).err() {
+        Some(ABOVE_DOMAIN) => Err(ABOVE_DOMAIN),
+        _ if asked.out < RUN_WORDS => Err(NO_ROOM),
+        Some(refusal) => Err(refusal),
+        None => Ok(Ran::of(listed, table, state, asked)),
+    }
+}
+
+/// A run on both, from a state; the forward table goes on with it. Gives what the scope answers, or the refusal, which must leave
+/// every lent word as it was.
+pub fn run(listed: &Listed, forward: &mut Both, state: State, asked: Asked) -> Result<Result<Ran, u32>, Finding> {
+    let expected = called(listed, &mut forward.model, state, asked);
+    let left = expected.as_ref().ok().map(|ran| (&forward.model, ran.state.used));
     let index = Index::after(asked.index, left);
 
     let mut ours = Index::of(asked.index);
@@ -93,10 +101,10 @@ pub fn run(listed: &Listed, forward: &mut Both, state: State, asked: Asked) -> R
     };
     let number = rewind_run(listed.names, listed.words, state, forward.lent_mut(), lent);
 
-    let front = expected.as_ref();
+    let front = expected.as_ref().ok();
     let texts = front.map_or(&[][..], |ran| &ran.text);
     let byte = |at: usize| texts.get(at).copied().unwrap_or(untouched_byte(at));
-    let what = against(number, if expected.is_some() { ACCEPTED } else { NO_ROOM })
+    let what = against(number, expected.as_ref().err().copied().unwrap_or(ACCEPTED))
         .or_else(|| {
             let (at, word) = word_against(&out, &front.map_or(Vec::new(), Ran::words))?;
             let field = RUN_FIELDS.get(at).unwrap_or(&"a word behind the answer");
@@ -146,11 +154,12 @@ pub fn whole(listed: &Listed, forward: &Both, mut state: State) -> Result<(), Fi
             out: RUN_WORDS + [0, 0, 2][turn % 3],
             index: sizes(forward.model.slots(), turn),
         };
-        let Some(ran) = run(listed, &mut forward, state, asked)? else {
-            return Err(unexpected("rewind_run", "one with room", "refusal 5"));
+        let ran = match run(listed, &mut forward, state, asked)? {
+            Ok(ran) => ran,
+            Err(refusal) => return Err(unexpected("rewind_run", "a run", &format!("refusal {refusal}"))),
         };
         state = ran.state;
-        if ran.refusal == 0 && ran.ends.len() < asked.steps {
+        if ran.stopped == 0 && ran.ends.len() < asked.steps {
             return Ok(());
         }
         turn += 1;
