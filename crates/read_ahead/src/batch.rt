@@ -1,8 +1,14 @@
 // A batch of records: the slots of their keys, and those of the folders above them with the names there, a level at a time.
-ghost use mathlib.Core.Path.{_≡_};
-ghost use Prim.Native.Nat.{_+_, _/_, _≤_, _<_};
+//
+// For each record of a batch three words are kept: a key, and a link that leads to its slot. A pass goes over all records, so that what
+// it reads for one does not wait for what it reads for another. The answers are sums of a byte for each read: they decide nothing, and
+// the compiler, which does not know that, leaves no read out.
+ghost use Prim.Native.Nat.{_*_, _/_, _^_, _≤_, _<_};
 ghost use lib.ListN.{length};
+ghost use Rattle.entry_slots.specs.Slots.{stride};
+ghost use Rattle.read_ahead.specs.Reading.{batch};
 use entry_slots::EntryKey;
+use entry_slots::NamePlace;
 use entry_slots::links::hash_of;
 use entry_slots::names::JOURNAL;
 use entry_slots::slots::STRIDE;
@@ -10,49 +16,43 @@ use entry_slots::slots::info_at;
 use entry_slots::slots::key_at;
 use entry_slots::slots::same_key;
 use usn_record::bytes::byte_at;
-use usn_record::bytes::le_u16;
-use usn_record::bytes::le_u64;
-use usn_record::fields::parts_of;
+use usn_record::fields::Reference;
+use usn_record::references::references_at;
 
-// The records of a batch, and the words of their keys.
+// The records of a batch, and the words kept for them.
 pub(crate) const BATCH: usize = 32;
 
-const KEY_WORDS: usize = 64;
+const WAY: usize = 3;
 
-// What a link leads to: how many slots, one or none, and the parent there.
-struct Met {
-    slots: usize,
-    parent: EntryKey,
+const WAYS: usize = 96;
+
+// What a pass does for each record of a batch.
+enum Pass {
+    // Sets out with the key of its file.
+    File,
+    // Sets out with the key of its folder.
+    Folder,
+    // Reads the slot that the link leads to, and goes on to the next link where that has another key.
+    Follow,
+    // Reads the name in the slot, and sets out with the parent there.
+    Rise,
 }
 
-// Where in a record a reference begins: that of its folder, or of its own file.
-fn reference_at(folder: bool, narrow: bool) -> usize
-    ensures { λ r. ⌜ r ≤ 24 ⌝ }
-{
-    if !folder {
-        return 8;
-    }
-    if narrow {
-        return 16;
-    }
-    24
-}
-
-// The key of the record at an offset, by its one reference or the other. The record is not tested: where none stands, this is the
-// key of some other file.
-fn key_of(journal: &[u8], offset: usize, folder: bool) -> EntryKey {
-    if journal.len() <= offset {
-        return EntryKey {
-            entry: 0,
-            sequence: 0,
-        };
-    }
-    let narrow = le_u16(journal, offset + 4) == 2;
-    let low = le_u64(journal, offset + reference_at(folder, narrow));
-    let reference = parts_of(low, 0, narrow);
+// The key that a reference is.
+fn key_of(reference: Reference) -> EntryKey {
     EntryKey {
         entry: reference.entry,
         sequence: reference.sequence as u64,
+    }
+}
+
+// The key of a record of the batch.
+fn way_key(ways: &[u64; WAYS], x: usize) -> EntryKey
+    requires { ⌜ x < batch ⌝ }
+{
+    EntryKey {
+        entry: ways[x * WAY],
+        sequence: ways[x * WAY + 1],
     }
 }
 
@@ -63,208 +63,193 @@ fn link_of(heads: &[u64], key: EntryKey) -> u64
     heads[hash_of(heads.len(), key)]
 }
 
+// Whether the record before has this key.
+fn is_last(ways: &[u64; WAYS], x: usize, key: EntryKey) -> bool
+    requires { ⌜ x < batch ⌝ }
+{
+    if x == 0 {
+        return false;
+    }
+    same_key(way_key(ways, x - 1), key)
+}
+
+// Sets out with a key: by its first link, or by none where the record before has the same key.
+fn set_out(heads: &[u64], ways: &mut [u64; WAYS], x: usize, key: EntryKey)
+    requires { ⌜ (0 < length (now heads)) × (x < batch) ⌝ }
+{
+    let mut link: u64 = 0;
+    if !is_last(ways, x, key) {
+        link = link_of(heads, key);
+    }
+    ways[x * WAY] = key.entry;
+    ways[x * WAY + 1] = key.sequence;
+    ways[x * WAY + 2] = link;
+}
+
+// A link that leads to a slot, which is one less; 0 where it leads to none.
+fn reach(slots: &[u64], link: u64) -> usize
+    ensures { λ r. ⌜ r * stride ≤ length (now (slots .entry)) ⌝ }
+{
+    let n = link as usize;
+    if slots.len() / STRIDE < n {
+        return 0;
+    }
+    n
+}
+
 // A link, or the next one where its slot has another key.
 fn followed(slots: &[u64], nexts: &[u64], link: u64, key: EntryKey) -> u64 {
-    let count = slots.len() / STRIDE;
-    let i = link as usize;
-    if i == 0 {
+    let n = reach(slots, link);
+    if n == 0 {
         return 0;
     }
-    if count < i {
-        return 0;
-    }
-    if same_key(key_at(slots, i - 1), key) {
+    if same_key(key_at(slots, n - 1), key) {
         return link;
     }
-    if nexts.len() < i {
+    if nexts.len() < n {
         return 0;
     }
-    nexts[i - 1]
+    nexts[n - 1]
 }
 
-// What a link leads to that leads nowhere.
-fn nothing() -> Met
-    ensures { λ r. ⌜ r .slots ≡ 0 ⌝ }
-{
-    let parent = EntryKey {
-        entry: 0,
-        sequence: 0,
-    };
-    Met { slots: 0, parent }
-}
-
-// The slot that a link leads to.
-fn slot_of(slots: &[u64], link: u64) -> Met
-    ensures { λ r. ⌜ r .slots ≤ 1 ⌝ }
-{
-    let count = slots.len() / STRIDE;
-    let i = link as usize;
-    if i == 0 {
-        return nothing();
-    }
-    if count < i {
-        return nothing();
-    }
-    let info = info_at(slots, i - 1);
-    let parent = info.parent;
-    Met { slots: 1, parent }
-}
-
-// The first byte of the name in the slot that a link leads to.
-fn name_of(journal: &[u8], image: &[u8], slots: &[u64], link: u64) -> u8 {
-    let count = slots.len() / STRIDE;
-    let i = link as usize;
-    if i == 0 {
-        return 0;
-    }
-    if count < i {
-        return 0;
-    }
-    let info = info_at(slots, i - 1);
-    let name = info.name;
+// The first byte of the name in a slot.
+fn first_of(journal: &[u8], image: &[u8], name: NamePlace) -> u8 {
     if name.source == JOURNAL {
         return byte_at(journal, name.offset as usize);
     }
     byte_at(image, name.offset as usize)
 }
 
-// A key behind m others, unless it is the last one of them; how many there are then.
-fn add_key(keys: &mut [u64; KEY_WORDS], m: usize, last: EntryKey, key: EntryKey) -> usize
-    requires { ⌜ m < 32 ⌝ }
-    ensures { λ r. ⌜ r ≤ m + 1 ⌝ }
-{
-    if same_key(last, key) {
-        return m;
-    }
-    keys[m * 2] = key.entry;
-    keys[m * 2 + 1] = key.sequence;
-    m + 1
-}
-
-// The keys of n records from one on, those that are not that of the record before; how many they are.
-fn take_keys(
-    journal: &[u8],
-    records: &[usize],
-    from: usize,
-    n: usize,
-    folders: bool,
-    keys: &mut [u64; KEY_WORDS],
-) -> usize
-    requires { ⌜ (from + n ≤ length (now records) / 2) × (n ≤ 32) ⌝ }
-    ensures { λ r. ⌜ r ≤ 32 ⌝ }
-{
-    let mut last = EntryKey {
+// The key where there is none.
+fn nowhere() -> EntryKey {
+    EntryKey {
         entry: 0,
         sequence: 0,
-    };
-    let mut m: usize = 0;
-    let mut x: usize = 0;
-    while x < n {
-        let key = key_of(journal, records[(from + x) * 2], folders);
-        m = add_key(keys, m, last, key);
-        last = key;
-        x += 1;
     }
-    m
 }
 
-// The first links of n keys.
-fn take_links(heads: &[u64], n: usize, keys: &[u64; KEY_WORDS], links: &mut [u64; BATCH])
-    requires { ⌜ (0 < length (now heads)) × (n ≤ 32) ⌝ }
+// Follows the link of a record; the low byte of where it then leads.
+fn follow(slots: &[u64], nexts: &[u64], ways: &mut [u64; WAYS], x: usize) -> u8
+    requires { ⌜ x < batch ⌝ }
 {
-    let mut x: usize = 0;
-    while x < n {
-        let key = EntryKey {
-            entry: keys[x * 2],
-            sequence: keys[x * 2 + 1],
-        };
-        links[x] = link_of(heads, key);
-        x += 1;
-    }
+    let link = ways[x * WAY + 2];
+    let next = followed(slots, nexts, link, way_key(ways, x));
+    ways[x * WAY + 2] = next;
+    (next % 256) as u8
 }
 
-// The links of n keys: where the slot of the first one has another key, the next one.
-fn follow_links(
+// Rises from the slot of a record to its parent; the first byte of the name in the slot. Where there is none, key 0, 0 is next.
+fn rise(
+    journal: &[u8],
+    image: &[u8],
     slots: &[u64],
+    heads: &[u64],
+    ways: &mut [u64; WAYS],
+    x: usize,
+) -> u8
+    requires { ⌜ (0 < length (now heads)) × (x < batch) ⌝ }
+{
+    let n = reach(slots, ways[x * WAY + 2]);
+    if n == 0 {
+        set_out(heads, ways, x, nowhere());
+        return 0;
+    }
+    let info = info_at(slots, n - 1);
+    set_out(heads, ways, x, info.parent);
+    first_of(journal, image, info.name)
+}
+
+// What a pass does for one record of a batch; a byte of what it read.
+fn step(
+    pass: Pass,
+    journal: &[u8],
+    image: &[u8],
+    records: &[usize],
+    slots: &[u64],
+    heads: &[u64],
     nexts: &[u64],
-    n: usize,
-    keys: &[u64; KEY_WORDS],
-    links: &mut [u64; BATCH],
-)
-    requires { ⌜ n ≤ 32 ⌝ }
+    ways: &mut [u64; WAYS],
+    x: usize,
+) -> u8
+    requires { ⌜ (0 < length (now heads)) × (x < batch) × (x < length (now records) / 2) ⌝ }
 {
-    let mut x: usize = 0;
-    while x < n {
-        let key = EntryKey {
-            entry: keys[x * 2],
-            sequence: keys[x * 2 + 1],
-        };
-        let link = links[x];
-        links[x] = followed(slots, nexts, link, key);
-        x += 1;
+    match pass {
+        Pass::File => {
+            let references = references_at(journal, records[x * 2]);
+            set_out(heads, ways, x, key_of(references.file));
+            0
+        }
+        Pass::Folder => {
+            let references = references_at(journal, records[x * 2]);
+            set_out(heads, ways, x, key_of(references.parent));
+            0
+        }
+        Pass::Follow => follow(slots, nexts, ways, x),
+        Pass::Rise => rise(journal, image, slots, heads, ways, x),
     }
 }
 
-// The parents in the slots that n links lead to, as the next keys; how many slots there are.
-fn take_parents(slots: &[u64], n: usize, links: &[u64; BATCH], keys: &mut [u64; KEY_WORDS]) -> usize
-    requires { ⌜ n ≤ 32 ⌝ }
-    ensures { λ r. ⌜ r ≤ 32 ⌝ }
-{
-    let mut met: usize = 0;
-    let mut x: usize = 0;
-    while x < n {
-        let found = slot_of(slots, links[x]);
-        let parent = found.parent;
-        keys[x * 2] = parent.entry;
-        keys[x * 2 + 1] = parent.sequence;
-        met += found.slots;
-        x += 1;
-    }
-    met
-}
-
-// The names in the slots that n links lead to: the sum of their first bytes.
-fn take_names(journal: &[u8], image: &[u8], slots: &[u64], n: usize, links: &[u64; BATCH]) -> usize
-    requires { ⌜ n ≤ 32 ⌝ }
+// A pass over a batch of records; the sum of its bytes.
+fn go_over(
+    pass: Pass,
+    journal: &[u8],
+    image: &[u8],
+    records: &[usize],
+    slots: &[u64],
+    heads: &[u64],
+    nexts: &[u64],
+    ways: &mut [u64; WAYS],
+) -> usize
+    requires { ⌜ (0 < length (now heads)) × (length (now records) / 2 ≤ batch) ⌝ }
     ensures { λ r. ⌜ r ≤ 8160 ⌝ }
 {
     let mut sum: usize = 0;
     let mut x: usize = 0;
-    while x < n {
-        sum += name_of(journal, image, slots, links[x]) as usize;
+    while x < records.len() / 2 {
+        sum += step(pass, journal, image, records, slots, heads, nexts, ways, x) as usize;
         x += 1;
     }
     sum
 }
 
-// Reads ahead for n records from one on, so many folders up; how much was met.
+// The passes over a batch: to the slots of the records' own keys, and from their folders on two for each level.
+fn pass_at(i: usize) -> Pass {
+    match i {
+        0 => Pass::File,
+        1 => Pass::Follow,
+        2 => Pass::Folder,
+        _ => { if i % 2 == 1 { Pass::Follow } else { Pass::Rise } }
+    }
+}
+
+// Reads ahead for a batch of records by so many passes; the sum of their bytes.
 pub(crate) fn read_batch(
     journal: &[u8],
     image: &[u8],
     records: &[usize],
-    from: usize,
-    n: usize,
     slots: &[u64],
     heads: &[u64],
     nexts: &[u64],
-    levels: usize,
+    passes: usize,
 ) -> usize
-    requires { ⌜ (from + n ≤ length (now records) / 2) × (n ≤ 32) ⌝ }
-    requires { ⌜ (0 < length (now heads)) × (levels ≤ 4) ⌝ }
+    requires { ⌜ (0 < length (now heads)) × (length (now records) / 2 ≤ batch) × (passes ≤ 11) ⌝ }
+    ensures { λ r. ⌜ r < 2 ^ 20 ⌝ }
 {
-    let mut keys = [0u64; KEY_WORDS];
-    let mut links = [0u64; BATCH];
-    let files = take_keys(journal, records, from, n, false, &mut keys);
-    take_links(heads, files, &keys, &mut links);
-    let mut met = take_parents(slots, files, &links, &mut keys);
-    let folders = take_keys(journal, records, from, n, true, &mut keys);
-    let mut level: usize = 0;
-    while level < levels {
-        take_links(heads, folders, &keys, &mut links);
-        follow_links(slots, nexts, folders, &keys, &mut links);
-        met += take_parents(slots, folders, &links, &mut keys);
-        met += take_names(journal, image, slots, folders, &links);
-        level += 1;
+    let mut ways = [0u64; WAYS];
+    let mut sum: usize = 0;
+    let mut i: usize = 0;
+    while i < passes {
+        sum += go_over(
+            pass_at(i),
+            journal,
+            image,
+            records,
+            slots,
+            heads,
+            nexts,
+            &mut ways,
+        );
+        i += 1;
     }
-    met
+    sum
 }

@@ -2,27 +2,38 @@
 //
 // A step waits for a slot before it knows the next one on its way, and the slots of a large table are mostly out of the processor's
 // caches. Those of different records do not wait for each other: for a batch of records each level is met at once, and the steps
-// then find near what they look for. The compiler leaves out a read that decides nothing, so what is met is counted, and where
-// that is nothing the next record is tried again. No result of a rewind depends on it: any position that is answered will do.
+// then find near what they look for. What is answered is the position up to which that is done, which nothing that is read decides.
 //
-// Every function here is proved safe and to end. The two calls are helpers of our own crates.
+// Every function here is proved. The two calls are helpers of our own crates; no result of a rewind depends on them.
 mod batch;
 
-ghost use Prim.Native.Nat.{_+_, _/_, _^_, _≤_, _<_};
+ghost use mathlib.Core.Path.{_≡_};
+ghost use Prim.Native.Nat.{_+_, _/_, _^_, _<_};
 ghost use lib.ListN.{length};
+ghost use Rattle.walk.specs.Lent.{before};
+ghost use Rattle.entry_slots.specs.Slots.{slotsIn};
+ghost use Rattle.read_ahead.specs.Reading.{atOnce, readTo};
 use crate::batch::BATCH;
 use crate::batch::read_batch;
 use entry_slots::slots::STRIDE;
 
-// How many folders are met above each record.
+// How many folders are read above each record.
 const LEVELS: usize = 4;
+
+// The passes over a batch that goes forward, and over one that goes backward, which needs the slots of the records' own keys alone.
+const FORWARD: usize = 3 + 2 * LEVELS;
+
+const BACKWARD: usize = 2;
 
 // Tables of fewer slots are not read ahead for.
 const LARGE: usize = 65536;
 
+// More than the sum of the bytes that are read for a batch.
+const MORE: usize = 0x10_0000;
+
 // Before a walk from the first record to the last puts the record at a position into a table: reads ahead from there on, unless that
 // is done up to a later position. The position up to which it is done.
-pub fn ahead_of(
+pub fn ahead_forward(
     journal: &[u8],
     image: &[u8],
     records: &[usize],
@@ -31,28 +42,31 @@ pub fn ahead_of(
     slots: &[u64],
     heads: &[u64],
     nexts: &[u64],
-) -> usize {
-    let n = due(records, position, done, slots, heads);
-    if n == 0 {
+) -> usize
+    ensures { λ r. ⌜ r ≡ readTo (length (before records) / 2) (slotsIn (before slots)) (length (before heads)) position done ⌝ }
+{
+    if position < done {
         return done;
     }
-    let met = read_batch(
+    let n = at_once(records, slots, heads, position);
+    if n == 0 {
+        return position;
+    }
+    let end = position + n;
+    let sum = read_batch(
         journal,
         image,
-        records,
-        position,
-        n,
+        &records[position * 2..end * 2],
         slots,
         heads,
         nexts,
-        LEVELS,
+        FORWARD,
     );
-    reached(position, n, met)
+    reached(end, sum)
 }
 
-// The same for a walk from the last record to the first, with positions from the last one on. It needs the slots of the records' own
-// keys alone.
-pub fn behind(
+// The same before a walk from the last record to the first, with positions from the last one on.
+pub fn ahead_backward(
     journal: &[u8],
     records: &[usize],
     position: usize,
@@ -60,24 +74,35 @@ pub fn behind(
     slots: &[u64],
     heads: &[u64],
     nexts: &[u64],
-) -> usize {
-    let n = due(records, position, done, slots, heads);
-    if n == 0 {
+) -> usize
+    ensures { λ r. ⌜ r ≡ readTo (length (before records) / 2) (slotsIn (before slots)) (length (before heads)) position done ⌝ }
+{
+    if position < done {
         return done;
     }
-    let from = records.len() / 2 - position - n;
-    let met = read_batch(journal, journal, records, from, n, slots, heads, nexts, 0);
-    reached(position, n, met)
+    let n = at_once(records, slots, heads, position);
+    if n == 0 {
+        return position;
+    }
+    let end = records.len() / 2 - position;
+    let start = end - n;
+    let sum = read_batch(
+        journal,
+        journal,
+        &records[start * 2..end * 2],
+        slots,
+        heads,
+        nexts,
+        BACKWARD,
+    );
+    reached(position + n, sum)
 }
 
-// How many records from a position on to read ahead for: none where that is done, without an index, or in a small table.
-fn due(records: &[usize], position: usize, done: usize, slots: &[u64], heads: &[u64]) -> usize
-    ensures { λ r. ⌜ (r ≤ 32) × (0 < r → (position + r ≤ length (now (records .entry)) / 2) × (0 < length (now (heads .entry)))) ⌝ }
+// How many records to read ahead for at a position.
+fn at_once(records: &[usize], slots: &[u64], heads: &[u64], position: usize) -> usize
+    ensures { λ r. ⌜ r ≡ atOnce (length (before records) / 2) (slotsIn (before slots)) (length (before heads)) position ⌝ }
 {
     let count = records.len() / 2;
-    if position < done {
-        return 0;
-    }
     if heads.len() == 0 {
         return 0;
     }
@@ -93,12 +118,11 @@ fn due(records: &[usize], position: usize, done: usize, slots: &[u64], heads: &[
     BATCH
 }
 
-// The position up to which n records from one on are done; where nothing was met, the next record is tried again.
-fn reached(position: usize, n: usize, met: usize) -> usize
-    requires { ⌜ (0 < n) × (position + n < 2 ^ 64) ⌝ }
+// The position that was reached. The sum of what was read is less than MORE, so that nothing is added; the compiler does not know
+// that, and leaves no read out.
+fn reached(position: usize, sum: usize) -> usize
+    requires { ⌜ (sum < 2 ^ 20) × (position + 1 < 2 ^ 64) ⌝ }
+    ensures { λ r. ⌜ r ≡ position ⌝ }
 {
-    if met == 0 {
-        return position + 1;
-    }
-    position + n
+    position + sum / MORE
 }

@@ -1,7 +1,7 @@
 -- What is known of the cases of a recording.
 use Prim.Native.Nat.{ℕ, _≤_, _<_}
-use Rattle.replay.specs.declared.NextCase.{NextCase}
-use Rattle.replay.specs.declared.NextCase.the-variants.{Over, Case}
+use Rattle.replay.specs.declared.cases.NextCase.{NextCase}
+use Rattle.replay.specs.declared.cases.NextCase.the-variants.{Over, Case}
 
 -- a case at an offset of a recording of n bytes lies inside it, and ends further on
 abbrev pub Inside : ℕ → ℕ → NextCase → Type 0

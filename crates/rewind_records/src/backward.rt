@@ -12,7 +12,7 @@ use additions::entries::entry_from_last;
 use additions::entries::replaces_backward;
 use entry_table::Stored;
 use entry_table::adding::add_by;
-use read_ahead::behind;
+use read_ahead::ahead_backward;
 
 // Every record, from the last to the first, into the table. The caller has seen to it that there is room, so that no addition
 // is refused.
@@ -33,7 +33,7 @@ pub fn add_backward(
     let mut i: usize = 0;
     let mut read: usize = 0;
     while i < count {
-        read = behind(journal, records, i, read, slots, heads, nexts);
+        read = ahead_backward(journal, records, i, read, slots, heads, nexts);
         let entry = entry_from_last(journal, records, i);
         match add_by(
             slots,

@@ -9,7 +9,7 @@ ghost use Rattle.rewind_run.specs.Promise.{RunStepPromise, RunAsks, Step
 use crate::RewindRun;
 use additions::entries::entry_at;
 use chain::way::WAY_WORDS;
-use read_ahead::ahead_of;
+use read_ahead::ahead_forward;
 use rewind::Rewind;
 use rewind_steps::Made;
 use rewind_steps::Stand;
@@ -82,7 +82,7 @@ pub(crate) fn run(
     let mut read: usize = 0;
     let mut way: [usize; WAY_WORDS] = [0; WAY_WORDS];
     while i < ends.len() {
-        read = ahead_of(
+        read = ahead_forward(
             journal,
             image,
             records,

@@ -1,6 +1,6 @@
 -- Laws of a record's fields: a reference from its halves, and where a name lies. Assumes nothing.
 use Prim.Native.Nat.{ℕ, _+_, _*_, _/_, _%_, _^_, _≤_, _<_}
-use mathlib.Core.Path.{_≡_, refl, ap, _∙_}
+use mathlib.Core.Path.{_≡_, refl, sym, ap, _∙_}
 use mathlib.Core.List.{List}
 use mathlib.Core.Bool.{Bool, true, false, cond, _||_}
 use native.Mathlib.Nat.{add-zero}
@@ -14,7 +14,7 @@ use Rattle.walk.proofs.ChoiceLaws.{cond-cases, or-left, or-right}
 use Rattle.usn_record.specs.Bytes.{leAt}
 use Rattle.usn_record.specs.Fields.{referenceOf, filenameOf}
 use Rattle.usn_record.specs.declared.fields.Reference.{Reference}
-use Rattle.usn_record.proofs.ByteLaws.{read-join}
+use Rattle.usn_record.proofs.ByteLaws.{read-join, read-past}
 
 -- a reference put together from its halves
 module _ (low high : ℕ) (h : low < 2 ^ 64) where
@@ -37,11 +37,14 @@ module _ (low high : ℕ) (h : low < 2 ^ 64) where
   unfolding referenceOf
   plain-halves e = rw e (cc (entry-half, high-half))
 
--- the reference that two reads of 8 bytes spell where it is 16 bytes wide, and one where it is not
+-- the reference that two reads of 8 bytes spell where it is 16 bytes wide and inside, none where it runs past the end, and one where it is not wide
 module _ (s : List ℕ) (o : ℕ) {a : ℕ} (ea : a ≡ leAt 8 s o) {r : Reference} (q : Bool) {w : Bool} where
-  pub wide-reference : w ≡ true → o + cond w 16 8 ≤ length s → {b : ℕ} → b ≡ leAt 8 s (o + 8) → r ≡ referenceOf q (a + b * 2 ^ 64)
+  pub wide-reference : w ≡ true → o + 16 ≤ length s → {b : ℕ} → b ≡ leAt 8 s (o + 8) → r ≡ referenceOf q (a + b * 2 ^ 64)
       → r ≡ referenceOf q (leAt (cond w 16 8) s o)
-  wide-reference ew h eb e = e ∙ ap (referenceOf q) (read-join 8 s o (rw ew at h) ea eb ∙ rw ew)
+  wide-reference ew h eb e = e ∙ ap (referenceOf q) (read-join 8 s o h ea eb ∙ rw ew)
+
+  pub past-reference : w ≡ true → length s < o + 16 → r ≡ referenceOf q (0 + 0 * 2 ^ 64) → r ≡ referenceOf q (leAt (cond w 16 8) s o)
+  past-reference ew h e = e ∙ ap (referenceOf q) (sym (read-past 16 s o h) ∙ rw ew)
 
   pub narrow-reference : w ≡ false → r ≡ referenceOf q (a + 0 * 2 ^ 64) → r ≡ referenceOf q (leAt (cond w 16 8) s o)
   narrow-reference ew e = e ∙ ap (referenceOf q) (add-zero a ∙ ea ∙ rw ew)

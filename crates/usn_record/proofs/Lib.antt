@@ -1,6 +1,7 @@
 pub mod ByteLaws
 pub mod SignedLaws
 pub mod FieldLaws
+pub mod ReferenceLaws
 pub mod RecordLaws
 pub mod NameLaws
 pub mod ListedLaws

@@ -1,8 +1,7 @@
 // What a record's numbers mean: signed numbers, times, file references, and the place of a name.
 ghost use mathlib.Core.Path.{_≡_};
 ghost use mathlib.Core.Bool.{cond};
-ghost use Prim.Native.Nat.{_+_, _*_, _^_, _≤_};
-ghost use lib.ListN.{length};
+ghost use Prim.Native.Nat.{_+_, _*_, _^_};
 ghost use mir.Syntax.{w64};
 ghost use mir.Val.{toZ};
 ghost use Rattle.usn_record.specs.Bytes.{leAt};
@@ -55,13 +54,19 @@ pub(crate) fn filetime_to_timestamp(bits: u64) -> Timestamp
     }
 }
 
-// The file reference at an offset: 16 bytes where it is wide, else 8.
+// The file reference at an offset: 16 bytes where it is wide, else 8. One that runs past the slice is 0.
 pub(crate) fn read_reference(data: &[u8], at: usize, wide: bool, sequenced: bool) -> Reference
-    requires { ⌜ at + cond wide 16 8 ≤ length (now «data») ⌝ }
     ensures { λ r. ⌜ r ≡ referenceOf sequenced (leAt (cond wide 16 8) (now («data» .entry)) at) ⌝ }
 {
     let low = le_u64(data, at);
     if wide {
+        let n = data.len();
+        if n < 16 {
+            return parts_of(0, 0, sequenced);
+        }
+        if n - 16 < at {
+            return parts_of(0, 0, sequenced);
+        }
         let high = le_u64(data, at + 8);
         parts_of(low, high, sequenced)
     } else {

@@ -6,6 +6,7 @@ pub mod fields;
 pub mod layout;
 pub mod listed;
 mod parse;
+pub mod references;
 pub mod zeros;
 
 ghost use mathlib.Core.Path.{_≡_};

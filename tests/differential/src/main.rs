@@ -17,6 +17,7 @@ mod library;
 mod names;
 mod paths;
 mod random;
+mod recording;
 mod records;
 mod rewinds;
 mod usn;
@@ -25,6 +26,7 @@ mod window;
 include!(concat!(env!("OUT_DIR"), "/original.rs"));
 
 use difference::Outcome;
+use recording::Recording;
 use std::io;
 use std::path::Path;
 use std::process::ExitCode;
@@ -53,6 +55,15 @@ const SUBJECTS: [Subject; 9] = [
     ("image", image::run),
     ("paths", paths::run),
     ("rewinds", rewinds::run),
+];
+
+/// What is recorded: its name, and what adds its inputs and the Rust's answers, in this order.
+const RECORDED: [(&str, fn(&mut Recording)); 5] = [
+    ("parsers", records::sample::record),
+    ("readers", journals::sample::record),
+    ("image", image::sample::record),
+    ("paths", paths::sample::record),
+    ("rewinds", rewinds::sample::record),
 ];
 
 enum Command {
@@ -97,13 +108,15 @@ fn main() -> ExitCode {
     }
 }
 
-/// The recorded samples, each to its own folder among the crates.
+/// The recording of every subject, to the folder of the program that replays it.
 fn record(crates: &Path) -> io::Result<()> {
-    records::sample::write(&crates.join("replay_record"))?;
-    journals::sample::write(&crates.join("replay_readers"))?;
-    image::sample::write(&crates.join("replay_image"))?;
-    paths::sample::write(&crates.join("replay_path"))?;
-    rewinds::sample::write(&crates.join("replay_rewind"))
+    let mut recording = Recording::default();
+    for (name, add) in RECORDED {
+        let before = recording.inputs;
+        add(&mut recording);
+        println!("recorded {name}: {} inputs", recording.inputs - before);
+    }
+    recording.write(&crates.join("replay"))
 }
 
 /// Every subject in turn, or the one that is asked for, up to the first difference.

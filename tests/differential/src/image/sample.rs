@@ -1,9 +1,5 @@
-//! The recorded sample of images and names, with the Rust's answers to them, for a test that has no Rust. It is the
-//! same byte for byte in every run.
-//!
-//! `stdin` is the inputs one after another: a byte, what it is (1 an image, 2 a name), four bytes, its length, little
-//! endian, and its bytes. `stdout` has the answers: of an image a line with the counters and a line for each entry, of
-//! a name a line with its text in hexadecimal.
+//! What is recorded of images and names, with the Rust's answers to them: of an image a line with the counters and a line
+//! for each entry, of a name a line with its text in hexadecimal.
 
 use super::layout::ENTRY;
 use super::{cases, edges, known};
@@ -11,9 +7,7 @@ use crate::carve::carve_mft_entries;
 use crate::names::cases::{bytes_of, fill, BOUNDARIES, KNOWN};
 use crate::names::comparison::{hex, text};
 use crate::random::Random;
-use crate::records::sample::write_files;
-use std::io;
-use std::path::Path;
+use crate::recording::{Kind, Recording};
 
 /// The sample's own seed, and the three streams of random numbers that it takes.
 const SEED: u64 = 20_261_116;
@@ -57,19 +51,14 @@ const LONGEST_NAME: usize = 24;
 /// Entries of a volume that mkntfs made; tests/samples/README.md says how.
 const VOLUME: &[u8] = include_bytes!("../../../samples/mkntfs-cut.bin");
 
-const IMAGE: u8 = 1;
-const NAME: u8 = 2;
-
-#[derive(Default)]
-struct Sample {
-    inputs: usize,
-    stdin: Vec<u8>,
-    stdout: String,
+struct Sample<'a> {
+    images: usize,
+    recording: &'a mut Recording,
 }
 
-/// Writes the files `stdin` and `stdout` of the sample to a folder, which is made where it is missing.
-pub fn write(folder: &Path) -> io::Result<()> {
-    let mut sample = Sample::default();
+/// Adds the images and names to a recording.
+pub fn record(recording: &mut Recording) {
+    let mut sample = Sample { images: 0, recording };
     for known in known::cases() {
         sample.image(&known.bytes);
     }
@@ -77,9 +66,6 @@ pub fn write(folder: &Path) -> io::Result<()> {
     random(&mut sample);
     names(&mut sample);
     sample.image(VOLUME);
-    write_files(folder, &sample.stdin, &sample.stdout)?;
-    println!("recorded image: {} inputs, {} bytes", sample.inputs, sample.stdin.len());
-    Ok(())
 }
 
 /// Of each kind of exhaustive entry one that is carved and one that is not, where it has them.
@@ -102,7 +88,7 @@ fn exhaustive(sample: &mut Sample) {
 fn random(sample: &mut Sample) {
     let mut bytes = Vec::new();
     let mut case = 0;
-    while sample.inputs < IMAGES {
+    while sample.images < IMAGES {
         cases::fill(&mut Random::of_case(SEED, CASES, case), &mut bytes);
         if (SHORTEST_RANDOM..=LONGEST_IMAGE).contains(&bytes.len()) {
             sample.image(&bytes);
@@ -128,18 +114,19 @@ fn names(sample: &mut Sample) {
     }
 }
 
-impl Sample {
+impl Sample<'_> {
     /// Adds an image with the Rust's entries and counters.
     fn image(&mut self, bytes: &[u8]) {
-        self.input(IMAGE, bytes);
+        self.images += 1;
+        self.recording.input(Kind::Entries, bytes);
         let (entries, stats) = carve_mft_entries(bytes);
-        self.stdout += &format!(
-            "entries {} candidates {} rejected {} bytes {}\n",
+        self.recording.line(&format!(
+            "entries {} candidates {} rejected {} bytes {}",
             stats.entries_carved, stats.candidates_examined, stats.rejected, stats.bytes_scanned
-        );
+        ));
         for entry in entries {
-            self.stdout += &format!(
-                "{} {} {} {} {} {} {} {}\n",
+            self.recording.line(&format!(
+                "{} {} {} {} {} {} {} {}",
                 entry.offset,
                 entry.entry_number,
                 entry.sequence_number,
@@ -148,24 +135,13 @@ impl Sample {
                 u8::from(entry.is_directory),
                 u8::from(entry.is_in_use),
                 hex(entry.filename.as_bytes()),
-            );
+            ));
         }
     }
 
-    /// Adds a name with its text, `-` if it is empty.
+    /// Adds a name with its text.
     fn name(&mut self, bytes: &[u8]) {
-        self.input(NAME, bytes);
-        match text(bytes).as_str() {
-            "" => self.stdout.push('-'),
-            text => self.stdout += &hex(text.as_bytes()),
-        }
-        self.stdout.push('\n');
-    }
-
-    fn input(&mut self, kind: u8, bytes: &[u8]) {
-        self.inputs += 1;
-        self.stdin.push(kind);
-        self.stdin.extend_from_slice(&(bytes.len() as u32).to_le_bytes());
-        self.stdin.extend_from_slice(bytes);
+        self.recording.input(Kind::Name, bytes);
+        self.recording.text(&text(bytes));
     }
 }

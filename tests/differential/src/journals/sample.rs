@@ -1,19 +1,15 @@
-//! The recorded sample of the readers: journals and the Rust's answers to them, for a test that has no Rust. It is the
-//! same byte for byte in every run.
-//!
-//! `stdin` is the cases one after another: a byte, the reader (1 the scan, 2 the carver, 3 the window), four bytes, the
-//! journal's length, little endian, and the journal. `stdout` has the answers: a line with the number of records, for
-//! the carver with its counters, and a line for each record, for the carver with its offset in front.
+//! What is recorded of the readers: journals and the Rust's answers to them: a line with the number of records, for the
+//! carver with its counters, and a line for each record, for the carver with its offset in front.
 
 use super::{cases, edges, known};
 use crate::random::Random;
-use crate::records::sample::{line, write_files};
+use crate::recording::{Kind, Recording};
+use crate::records::sample::line;
 use crate::usn::carver::carve_usn_records;
 use crate::usn::reader::UsnJournalReader;
 use crate::usn::record::parse_usn_journal;
 use crate::usn::UsnRecord;
-use std::io::{self, Cursor};
-use std::path::Path;
+use std::io::Cursor;
 
 /// The sample's own seed, and the two streams of random numbers that it takes.
 const SEED: u64 = 20_261_115;
@@ -39,10 +35,10 @@ const EXHAUSTIVE: [(&str, usize); 7] = [
 const LONGEST_JOURNAL: usize = 2000;
 const SHORTEST_RANDOM: usize = 400;
 
-/// A reader by its number in `stdin`, and the Rust's answer.
-type Reader = (u8, fn(&[u8]) -> Answer);
+/// A reader, and the Rust's answer.
+type Reader = (Kind, fn(&[u8]) -> Answer);
 
-const READERS: [Reader; 3] = [(1, scan), (2, carve), (3, window)];
+const READERS: [Reader; 3] = [(Kind::Scan, scan), (Kind::Carve, carve), (Kind::Window, window)];
 
 /// The first line of an answer, and the records with what stands in front of each.
 struct Answer {
@@ -50,25 +46,19 @@ struct Answer {
     records: Vec<(String, UsnRecord)>,
 }
 
-#[derive(Default)]
-struct Sample {
+struct Sample<'a> {
     journals: usize,
-    stdin: Vec<u8>,
-    stdout: String,
+    recording: &'a mut Recording,
 }
 
-/// Writes the files `stdin` and `stdout` of the sample to a folder, which is made where it is missing.
-pub fn write(folder: &Path) -> io::Result<()> {
-    let mut sample = Sample::default();
+/// Adds the journals to a recording.
+pub fn record(recording: &mut Recording) {
+    let mut sample = Sample { journals: 0, recording };
     for known in known::cases() {
         sample.add(&known.bytes);
     }
     exhaustive(&mut sample);
     random(&mut sample);
-    write_files(folder, &sample.stdin, &sample.stdout)?;
-    let inputs = READERS.len() * sample.journals;
-    println!("recorded readers: {inputs} inputs, {} bytes", sample.stdin.len());
-    Ok(())
 }
 
 /// Of each kind of exhaustive journal as many as the table says, drawn from the short ones.
@@ -98,25 +88,22 @@ fn random(sample: &mut Sample) {
     }
 }
 
-impl Sample {
+impl Sample<'_> {
     /// Adds a journal with every reader's answer. A long journal is left out, and so is one of which a reader gives a
     /// name with U+FFFD, whose text does not tell the units.
     fn add(&mut self, bytes: &[u8]) {
-        let answers = READERS.map(|(number, read)| (number, read(bytes)));
+        let answers = READERS.map(|(reader, read)| (reader, read(bytes)));
         let mut records = answers.iter().flat_map(|(_, answer)| &answer.records);
         let untold = records.any(|(_, record)| record.filename.contains(char::REPLACEMENT_CHARACTER));
         if untold || bytes.len() > LONGEST_JOURNAL {
             return;
         }
         self.journals += 1;
-        for (number, answer) in answers {
-            self.stdin.push(number);
-            self.stdin.extend_from_slice(&(bytes.len() as u32).to_le_bytes());
-            self.stdin.extend_from_slice(bytes);
-            self.stdout += &answer.first;
-            self.stdout.push('\n');
+        for (reader, answer) in answers {
+            self.recording.input(reader, bytes);
+            self.recording.line(&answer.first);
             for (before, record) in answer.records {
-                self.stdout += &format!("{before}{}\n", line(&record));
+                self.recording.line(&format!("{before}{}", line(&record)));
             }
         }
     }

@@ -1,10 +1,5 @@
-//! The recorded sample of tables and paths, with the Rust's answers, for a test that has no Rust. It is the same byte
-//! for byte in every run.
-//!
-//! `stdin` is the inputs one after another: a byte, what it is, four bytes, its length, little endian, and its bytes; a
-//! number among these is a word of eight bytes, little endian. A journal begins a program, with an empty table; the
-//! image is next. `stdout` has a line for each addition, the keys of the Rust's table, and for each path and name, its text in
-//! hexadecimal.
+//! What is recorded of tables and paths, with the Rust's answers: a line for each addition, the keys of the Rust's table,
+//! and for each path and name, its text in hexadecimal.
 
 use super::cases::World;
 use super::edges::{ladder, step, under, Letters};
@@ -14,12 +9,9 @@ use super::pair::{add, rust_key};
 use super::programs::NEVER;
 use crate::image::layout::ENTRY;
 use crate::image::walk;
-use crate::names::comparison::hex;
 use crate::random::Random;
-use crate::records::sample::write_files;
+use crate::recording::{Kind, Recording};
 use crate::rewind::RewindEngine;
-use std::io;
-use std::path::Path;
 
 /// The sample's own seed and its stream of random numbers.
 const SEED: u64 = 20_261_117;
@@ -35,22 +27,6 @@ const LONGEST_IMAGE: usize = 2 * ENTRY;
 /// The most slots that a program uses.
 const SLOTS: usize = 300;
 
-// What an input is.
-const JOURNAL: u8 = 1;
-const IMAGE: u8 = 2;
-const INSERT: u8 = 3;
-const INSERT_IF_ABSENT: u8 = 4;
-const LIST: u8 = 5;
-const PATH: u8 = 6;
-const NAME: u8 = 7;
-
-#[derive(Default)]
-struct Recording {
-    inputs: usize,
-    stdin: Vec<u8>,
-    stdout: String,
-}
-
 /// A program while it is recorded, with the Rust's table.
 struct Program<'a> {
     recording: &'a mut Recording,
@@ -58,15 +34,10 @@ struct Program<'a> {
     rust: RewindEngine,
 }
 
-/// Writes the files `stdin` and `stdout` of the sample to a folder, which is made where it is missing.
-pub fn write(folder: &Path) -> io::Result<()> {
-    let mut recording = Recording::default();
-    known(&mut recording);
-    random(&mut recording);
-    let Recording { inputs, stdin, stdout } = recording;
-    write_files(folder, &stdin, &stdout)?;
-    println!("recorded path: {inputs} inputs, {} bytes", stdin.len());
-    Ok(())
+/// Adds the programs to a recording.
+pub fn record(recording: &mut Recording) {
+    known(recording);
+    random(recording);
 }
 
 /// P9: a ladder of 259 names and the paths of its keys around as many as are followed; and a key that is its own
@@ -110,8 +81,8 @@ fn random(recording: &mut Recording) {
 impl<'a> Program<'a> {
     /// Begins a program with the bytes of its names.
     fn new(recording: &'a mut Recording, names: Sources<'a>) -> Self {
-        recording.input(JOURNAL, names.journal);
-        recording.input(IMAGE, names.image);
+        recording.input(Kind::Journal, names.journal);
+        recording.input(Kind::Image, names.image);
         Self {
             recording,
             names,
@@ -132,8 +103,8 @@ impl<'a> Program<'a> {
 
     /// Adds a slot, in place of a known one or not.
     fn one(&mut self, slot: &Slot, replace: bool) {
-        self.recording
-            .words(if replace { INSERT } else { INSERT_IF_ABSENT }, slot);
+        let kind = if replace { Kind::Insert } else { Kind::InsertIfAbsent };
+        self.recording.words(kind, slot);
         self.add(slot, replace);
         self.used();
     }
@@ -142,7 +113,7 @@ impl<'a> Program<'a> {
     fn list(&mut self, entries: &[u64]) {
         let slots = carved(entries);
         if slots.iter().all(|slot| bytes_at(self.names, place(slot)).is_some()) {
-            self.recording.words(LIST, entries);
+            self.recording.words(Kind::Seed, entries);
             slots.iter().for_each(|slot| self.add(slot, false));
             self.used();
         }
@@ -156,40 +127,17 @@ impl<'a> Program<'a> {
     fn used(&mut self) {
         let used = self.rust.lookup_len();
         assert!(used <= SLOTS, "a recorded table has {SLOTS} slots");
-        self.recording.stdout += &format!("used {used}\n");
+        self.recording.line(&format!("used {used}"));
     }
 
     fn path(&mut self, key: Key) {
-        self.recording.words(PATH, &key);
+        self.recording.words(Kind::Path, &key);
         let key = rust_key(key).expect("a sequence of 16 bits");
         self.recording.text(&self.rust.resolve_path(&key));
     }
 
     fn name(&mut self, place: Place) {
-        self.recording.words(NAME, &place);
+        self.recording.words(Kind::StoredName, &place);
         self.recording.text(&name(self.names, place));
-    }
-}
-
-impl Recording {
-    /// A line with a text, `-` if it is empty.
-    fn text(&mut self, text: &str) {
-        match text {
-            "" => self.stdout.push('-'),
-            text => self.stdout += &hex(text.as_bytes()),
-        }
-        self.stdout.push('\n');
-    }
-
-    fn words(&mut self, kind: u8, words: &[u64]) {
-        let bytes: Vec<u8> = words.iter().flat_map(|word| word.to_le_bytes()).collect();
-        self.input(kind, &bytes);
-    }
-
-    fn input(&mut self, kind: u8, bytes: &[u8]) {
-        self.inputs += 1;
-        self.stdin.push(kind);
-        self.stdin.extend_from_slice(&(bytes.len() as u32).to_le_bytes());
-        self.stdin.extend_from_slice(bytes);
     }
 }

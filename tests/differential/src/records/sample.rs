@@ -1,17 +1,13 @@
-//! The recorded sample: inputs and the Rust's answers to them, for a test that has no Rust. It is the same byte for
-//! byte in every run.
-//!
-//! `stdin` is the inputs one after another: a byte, the version (2 or 3), four bytes, the slice's length, little
-//! endian, and the slice. `stdout` has a line for each: `error`, or the fields in decimal and the name in hexadecimal.
+//! What is recorded of the parsers: slices and the Rust's answers to them, a line each: `error`, or the fields in decimal
+//! and the name in hexadecimal.
 
 use super::answers::PARSERS;
 use super::layout::{Layout, LAYOUTS};
 use super::{cases, edges};
 use crate::random::Random;
+use crate::recording::{Kind, Recording};
 use crate::usn::UsnRecord;
 use std::fmt::Write;
-use std::path::Path;
-use std::{fs, io};
 
 /// The sample's own seed, and the two streams of random numbers that it takes.
 const SEED: u64 = 20_261_112;
@@ -36,42 +32,19 @@ const EXHAUSTIVE: [(&str, usize); 11] = [
     ("single bit", 24),
 ];
 
-/// The largest slice that is recorded, and the largest `stdin` of any sample.
+/// The largest slice that is recorded.
 const LONGEST_SLICE: usize = 300;
-const LONGEST_STDIN: usize = 200_000;
 
-#[derive(Default)]
-struct Sample {
+struct Sample<'a> {
     inputs: usize,
-    stdin: Vec<u8>,
-    stdout: String,
+    recording: &'a mut Recording,
 }
 
-/// Writes the files `stdin` and `stdout` of the sample to a folder, which is made where it is missing.
-pub fn write(folder: &Path) -> io::Result<()> {
-    let mut sample = Sample::default();
+/// Adds the inputs to a recording.
+pub fn record(recording: &mut Recording) {
+    let mut sample = Sample { inputs: 0, recording };
     exhaustive(&mut sample);
     random(&mut sample);
-    write_files(folder, &sample.stdin, &sample.stdout)?;
-    println!(
-        "recorded parsers: {} inputs, {} bytes",
-        sample.inputs,
-        sample.stdin.len()
-    );
-    Ok(())
-}
-
-/// Writes the two files of a sample, unless its inputs are too large.
-pub fn write_files(folder: &Path, stdin: &[u8], stdout: &str) -> io::Result<()> {
-    if stdin.len() > LONGEST_STDIN {
-        return Err(io::Error::other(format!(
-            "the inputs have {} bytes, above {LONGEST_STDIN}",
-            stdin.len()
-        )));
-    }
-    fs::create_dir_all(folder)?;
-    fs::write(folder.join("stdin"), stdin)?;
-    fs::write(folder.join("stdout"), stdout)
 }
 
 /// Of each kind of exhaustive input as many as the table says, drawn from those on small slices.
@@ -105,7 +78,7 @@ fn random(sample: &mut Sample) {
     }
 }
 
-impl Sample {
+impl Sample<'_> {
     /// Adds an input and the Rust's answer. A long slice is left out, and so is a name with U+FFFD, whose text does not
     /// tell the units.
     fn add(&mut self, layout: &Layout, bytes: &[u8]) {
@@ -122,11 +95,9 @@ impl Sample {
             Err(_) => "error".to_string(),
         };
         self.inputs += 1;
-        self.stdin.push(layout.major_version as u8);
-        self.stdin.extend_from_slice(&(bytes.len() as u32).to_le_bytes());
-        self.stdin.extend_from_slice(bytes);
-        self.stdout += &line;
-        self.stdout.push('\n');
+        let kind = if layout.major_version == 2 { Kind::V2 } else { Kind::V3 };
+        self.recording.input(kind, bytes);
+        self.recording.line(&line);
     }
 }
 

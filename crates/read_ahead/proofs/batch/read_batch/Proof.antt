@@ -1,53 +1,30 @@
--- The invariant: what is met stays small.
-use Prim.Native.Nat.{_+_, _-_, _*_, _≤_}
+-- The invariant: the sum stays small.
+use Prim.Native.Nat.{_-_, _*_, _≤_}
 use native.Mathlib.Omega.{arith}
 use borrow.Author.Needs.{needs}
 use Rattle.read_ahead.proofs.batch.read_batch.Statement.{statement}
 use Rattle.read_ahead.proofs.batch.read_batch.Tie as tie
 
 abbrev Inv-loop : tie.InvT-loop
-Inv-loop journal image records from n slots heads nexts levels keys₀ links₀ files met₀ folders level₀ keys links met level =
-    ((level ≤ levels) × (levels ≤ 4)) × ((folders ≤ 32) × (met ≤ 32 + 8192 * level))
+Inv-loop journal image records slots heads nexts passes ways₀ sum₀ i₀ ways sum i = (i ≤ passes) × (sum ≤ 8160 * i)
 
 abbrev μ-loop : tie.MeasureT-loop
-μ-loop journal image records from n slots heads nexts levels keys₀ links₀ files met₀ folders level₀ keys links met level =
-    levels - level
-
-take-keys-requires : tie.Need-take-keys-requires Inv-loop μ-loop
-take-keys-requires c κs = search needs
-
-take-links-requires : tie.Need-take-links-requires Inv-loop μ-loop
-take-links-requires c κs = search needs
-
-take-parents-requires : tie.Need-take-parents-requires Inv-loop μ-loop
-take-parents-requires c κs = search needs
-
-take-keys-requires-2 : tie.Need-take-keys-requires-2 Inv-loop μ-loop
-take-keys-requires-2 c κs = search needs
+μ-loop journal image records slots heads nexts passes ways₀ sum₀ i₀ ways sum i = passes - i
 
 loop-holds : tie.Need-loop-holds Inv-loop μ-loop
 loop-holds c = omega arith
 
-take-links-requires-2 : tie.Need-take-links-requires-2 Inv-loop μ-loop
-take-links-requires-2 c κs = search needs
+pass-at-requires : tie.Need-pass-at-requires Inv-loop μ-loop
+pass-at-requires c κs = tt
 
-follow-links-requires : tie.Need-follow-links-requires Inv-loop μ-loop
-follow-links-requires c κs = search needs
+go-over-requires : tie.Need-go-over-requires Inv-loop μ-loop
+go-over-requires c κs = search needs
 
-take-parents-requires-2 : tie.Need-take-parents-requires-2 Inv-loop μ-loop
-take-parents-requires-2 c κs = search needs
+add-sum : tie.Need-add-sum Inv-loop μ-loop
+add-sum c = omega arith
 
-add-met : tie.Need-add-met Inv-loop μ-loop
-add-met c = omega arith
-
-take-names-requires : tie.Need-take-names-requires Inv-loop μ-loop
-take-names-requires c κs = search needs
-
-add-met-2 : tie.Need-add-met-2 Inv-loop μ-loop
-add-met-2 c = omega arith
-
-add-level : tie.Need-add-level Inv-loop μ-loop
-add-level c = omega arith
+add-i : tie.Need-add-i Inv-loop μ-loop
+add-i c = omega arith
 
 loop-less : tie.Need-loop-less Inv-loop μ-loop
 loop-less c = omega arith
@@ -64,18 +41,11 @@ read-batch-spec =
     (tie.spec
     Inv-loop
     μ-loop
-    take-keys-requires
-    take-links-requires
-    take-parents-requires
-    take-keys-requires-2
     loop-holds
-    take-links-requires-2
-    follow-links-requires
-    take-parents-requires-2
-    add-met
-    take-names-requires
-    add-met-2
-    add-level
+    pass-at-requires
+    go-over-requires
+    add-sum
+    add-i
     loop-less
     loop-again
     returns)

@@ -24,8 +24,8 @@ loop-holds c =
     let root = c .before .before .before .before .before in
     record { made = rows-start _ _ _ (root .pre .0); heads-kept = root .pre .1 .0 .0; nexts-kept = root .pre .1 .0 .1 }
 
-behind-requires : tie.Need-behind-requires Inv-loop μ-loop
-behind-requires c κs = tt
+ahead-backward-requires : tie.Need-ahead-backward-requires Inv-loop μ-loop
+ahead-backward-requires c κs = tt
 
 entry-from-last-requires : tie.Need-entry-from-last-requires Inv-loop μ-loop
 entry-from-last-requires c κs = omega arith
@@ -82,7 +82,7 @@ add-backward-spec =
     Inv-loop
     μ-loop
     loop-holds
-    behind-requires
+    ahead-backward-requires
     entry-from-last-requires
     replaces-backward-requires
     add-by-requires

@@ -23,8 +23,8 @@ loop-holds c =
     let s = root .args in
     (going-start (s .journal .now) (s .image .now) (s .records .now) (s .forward .now) (s .rewind) (s .heads .now) (s .nexts .now) (s .ends .now) (s .text .now) (root .pre), refl)
 
-ahead-of-requires : tie.Need-ahead-of-requires Inv-loop μ-loop
-ahead-of-requires c κs = tt
+ahead-forward-requires : tie.Need-ahead-forward-requires Inv-loop μ-loop
+ahead-forward-requires c κs = tt
 
 slice-aggregate-run-step : tie.Need-slice-aggregate-run-step Inv-loop μ-loop
 slice-aggregate-run-step c = sym (c .before .before .before .before .before .before .before .before .before .loop .inv .1)
@@ -150,7 +150,7 @@ run-spec =
     Inv-loop
     μ-loop
     loop-holds
-    ahead-of-requires
+    ahead-forward-requires
     slice-aggregate-run-step
     run-step-requires
     enum-known-to

@@ -1,11 +1,9 @@
 -- Each refusal by the tests that led to it; the record is put together from what its reads gave.
 use borrow.Author.Needs.{needs, sfits-of}
 use native.Mathlib.Omega.{arith}
-use Prim.Native.Nat.{ℕ, _+_, _≤_}
-use mathlib.Core.Path.{_≡_, sym, ap, _∙_}
+use mathlib.Core.Path.{sym, ap, _∙_}
 use mathlib.Core.Logic.{⊎-elim}
-use mathlib.Core.Bool.{Bool, true, false, cond, true≢false}
-use lib.ListN.{length}
+use mathlib.Core.Bool.{true≢false}
 use denote.Ref.{now}
 use mir.Syntax.{w64}
 use mir.ValLaws.{toZ-ofZ}
@@ -14,11 +12,6 @@ use Rattle.usn_record.specs.Layout.{layoutAt}
 use Rattle.usn_record.proofs.RecordLaws.{Accepts, refused-above-domain, refused-short-slice, refused-below-fixed, refused-above-most, refused-past-slice, accepted, assembled}
 use Rattle.usn_record.proofs.parse.parse.Statement.{statement}
 use Rattle.usn_record.proofs.parse.parse.Tie as tie
-
--- a reference is at most 16 bytes wide
-width : (wide : Bool) → cond wide 16 8 ≤ 16
-width true = omega arith
-width false = omega arith
 
 -- what the tests have shown where all are passed
 passed : (c : tie.Joined5) → let a = c .before .before .before .before .before .before .before .args in Accepts (layoutAt (a .parent) (a .tail) (a .wide) (a .sequenced) (a .length-in-slice) (a .major)) (now (a .«data»))
@@ -56,10 +49,10 @@ returns-5 : tie.Need-returns-5
 returns-5 c = refused-past-slice _ _ (omega arith) (omega arith) (omega arith) (omega arith) (c .before .if5 .taken) (omega arith)
 
 read-reference-requires : tie.Need-read-reference-requires
-read-reference-requires c κs = omega (arith, width (c .before .before .before .before .before .before .before .args .wide))
+read-reference-requires c κs = search needs
 
 read-reference-requires-2 : tie.Need-read-reference-requires-2
-read-reference-requires-2 c κs = omega (arith, width (c .before .before .before .before .before .before .before .before .args .wide))
+read-reference-requires-2 c κs = search needs
 
 add-le-u64 : tie.Need-add-le-u64
 add-le-u64 c = search needs

@@ -1,0 +1,82 @@
+// Images, for the carver, and names, to be decoded.
+use crate::lines::write_count;
+use crate::lines::write_field;
+use crate::lines::write_hex;
+use crate::lines::write_refused;
+use libc::STDOUT_FILENO;
+use mft_carver::MftCarving;
+use mft_carver::MftCarvingStats;
+use mft_carver::carve_mft_entries;
+use utf16::Decoded;
+use utf16::decode_utf16;
+
+// The words of an entry in the carver's list.
+const ENTRY_WORDS: usize = 9;
+
+pub(crate) fn carve(image: &[u8]) {
+    let mut list = [0u64; 576];
+    match carve_mft_entries(image, &mut list) {
+        MftCarving::Carved(stats) => {
+            write_stats(stats);
+            write_entries(image, &list, stats.entries_carved);
+        }
+        MftCarving::Refused(n) => write_refused(n),
+    }
+}
+
+fn write_stats(stats: MftCarvingStats) {
+    write_count(b"entries ", stats.entries_carved as u64);
+    write_count(b" candidates ", stats.candidates_examined);
+    write_count(b" rejected ", stats.rejected);
+    write_count(b" bytes ", stats.bytes_scanned as u64);
+    io::write_all(STDOUT_FILENO, b"\n");
+}
+
+// The first n entries of a list.
+fn write_entries(image: &[u8], list: &[u64], n: usize) {
+    for i in 0..n {
+        if list.len() / ENTRY_WORDS <= i {
+            return;
+        }
+        write_entry(image, list, ENTRY_WORDS * i);
+    }
+}
+
+// A line: the entry whose words begin at an index of the list.
+fn write_entry(image: &[u8], list: &[u64], at: usize) {
+    if list.len() < ENTRY_WORDS {
+        return;
+    }
+    if list.len() - ENTRY_WORDS < at {
+        return;
+    }
+    write_field(list[at]);
+    write_field(list[at + 1]);
+    write_field(list[at + 2]);
+    write_field(list[at + 5]);
+    write_field(list[at + 6]);
+    write_field(list[at + 7]);
+    write_field(list[at + 8]);
+    write_place(image, list[at + 3] as usize, list[at + 4] as usize);
+}
+
+// The text of the name at a place.
+fn write_place(image: &[u8], offset: usize, length: usize) {
+    if image.len() < length {
+        return;
+    }
+    if image.len() - length < offset {
+        return;
+    }
+    let end = offset + length;
+    write_text(&image[offset..end]);
+}
+
+// A name's text.
+pub(crate) fn write_text(name: &[u8]) {
+    let mut text = [0u8; 1024];
+    match decode_utf16(name, &mut text) {
+        Decoded::Text(n) => write_hex(&text, n),
+        Decoded::Refused(n) => write_refused(n),
+    }
+}
