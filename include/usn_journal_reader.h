@@ -4,7 +4,8 @@
  *
  * A slice is a pointer and the count of its elements, not of its bytes. A call answers 0 and writes the words of its answer, in
  * the order that its paragraph gives, or it answers a refusal's number and writes nothing at all. Words of a lent slice past those
- * of the answer stay as they were. The tests that refuse run in the order in which the paragraph lists them.
+ * of the answer stay as they were. The tests that refuse run in the order in which the paragraph lists them: too few words for the
+ * answer are refused directly behind 1, the domain, before every other test, and first by a call that has no 1.
  *
  * What a caller owes: each pointer is aligned for its type and valid over its count, and what a call writes to overlaps no other
  * slice of that call. Slices that are only read may overlap. An empty slice is the count 0 with any pointer, NULL too.
@@ -80,25 +81,25 @@ enum usn_record_word {
 
 /* usn_parse_record_v2: the version 2 record that data begins with, as USN_RECORD_WORDS words; the version field is not looked at.
  * The name's place counts from the start of data and may lie anywhere in it; a name that passes data is empty.
- * Refuses: 1 data is above the domain; 2 it is shorter than 60 bytes; 3 the length field is outside 60..65536; 4 that length
- * passes data; 5 fewer than 19 words are lent. */
+ * Refuses: 1 data is above the domain; 5 fewer than 19 words are lent; 2 data is shorter than 60 bytes; 3 the length field is
+ * outside 60..65536; 4 that length passes data. */
 uint32_t usn_parse_record_v2(const uint8_t *data, size_t data_len, uint64_t *words, size_t words_len);
 
 /* usn_parse_record_v3: the same for version 3, with references of 128 bits and no sequences.
- * Refuses: 1 data is above the domain; 2 it is shorter than 76 bytes; 3 the length field is outside 76..65536; 5 fewer than 19
- * words are lent. A length that passes data is not refused. */
+ * Refuses: 1 data is above the domain; 5 fewer than 19 words are lent; 2 data is shorter than 76 bytes; 3 the length field is
+ * outside 76..65536. A length that passes data is not refused. */
 uint32_t usn_parse_record_v3(const uint8_t *data, size_t data_len, uint64_t *words, size_t words_len);
 
 /* usn_listed_record: the record at an offset of an extract, as its version field and its length field say, as USN_RECORD_WORDS
  * words. The name's place counts from the record: add offset where the name is not empty. Any offset may be asked for, and the
  * extract may be above the domain.
- * Refuses: 12 fewer than 8 bytes are left, the record passes the end, its version is neither 2 nor 3, or its parser refuses it; 5
- * fewer than 19 words are lent. */
+ * Refuses: 5 fewer than 19 words are lent; 12 fewer than 8 bytes are left, the record passes the end, its version is neither 2 nor
+ * 3, or its parser refuses it. */
 uint32_t usn_listed_record(const uint8_t *extract, size_t extract_len, size_t offset, uint64_t *words, size_t words_len);
 
 /* usn_parse_journal: the scan of an extract. For each version 2 and 3 record, in order, its offset and its length go to list, two
  * words; how many they are goes to out, one word. usn_listed_record then gives the fields of each.
- * Refuses: 5 out has no word; 1 the extract is above the domain; 5 list has fewer than two words for each record. */
+ * Refuses: 1 the extract is above the domain; 5 out has no word, or list fewer than two for each record. */
 uint32_t usn_parse_journal(const uint8_t *extract, size_t extract_len, size_t *list, size_t list_len, uint64_t *out,
                            size_t out_len);
 
@@ -114,7 +115,7 @@ enum usn_carving_word {
 
 /* usn_carve_records: the version 2 and 3 records in raw bytes, wherever one stands at a multiple of 8. For each its offset and its
  * length go to list, two words; the USN_CARVING_WORDS counters go to out.
- * Refuses: 5 out has fewer than 5 words; 1 the extract is above the domain; 5 list has fewer than two words for each record. */
+ * Refuses: 1 the extract is above the domain; 5 out has fewer than 5 words, or list fewer than two for each record. */
 uint32_t usn_carve_records(const uint8_t *extract, size_t extract_len, size_t *list, size_t list_len, uint64_t *out,
                            size_t out_len);
 
@@ -151,8 +152,8 @@ uint32_t usn_reader_new(uint64_t total, uint64_t *reader, size_t reader_len);
  * name's place counted from the start of the buffer, and else 3: 1, from where on bytes are wanted, how many; or 0, 0, 0. The bytes
  * wanted may begin before the end of those given so far: a caller that reads a file seeks. The buffer is the caller's and has to
  * come back as the window left it.
- * Refuses: 5 reader has fewer than 6 words or out fewer than 22; 1 the total is above USN_MAX_STREAM; 11 the buffer is not
- * USN_WINDOW_BYTES long; 9 the words of reader cannot be a window's. */
+ * Refuses: 5 reader has fewer than 6 words, so that no window can be read; 1 the total is above USN_MAX_STREAM; 5 out has fewer
+ * than 22 words; 11 the buffer is not USN_WINDOW_BYTES long; 9 the words of reader cannot be a window's. */
 uint32_t usn_reader_next(uint64_t *reader, size_t reader_len, const uint8_t *buffer, size_t buffer_len, uint64_t *out,
                          size_t out_len);
 

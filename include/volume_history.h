@@ -41,12 +41,12 @@ enum mft_carving_word {
 
 /* mft_carve_entries: the MFT entries in an image, looked for at each multiple of 1024. For each MFT_ENTRY_WORDS words go to list,
  * and the MFT_CARVING_WORDS counters to out. An image of n bytes has at most n / 1024 entries.
- * Refuses: 5 out has fewer than 4 words; 1 the image is above the domain; 5 list has fewer than nine words for each entry. */
+ * Refuses: 1 the image is above the domain; 5 out has fewer than 4 words, or list fewer than nine for each entry. */
 uint32_t mft_carve_entries(const uint8_t *image, size_t image_len, uint64_t *list, size_t list_len, uint64_t *out, size_t out_len);
 
 /* utf16_decode: the UTF-16 of bytes, little endian, as UTF-8 at the front of text; how many bytes that is goes to out, one word.
  * An unpaired surrogate becomes EF BF BD (h), an odd last byte is dropped. Three bytes of text for each two of bytes always do.
- * Refuses: 5 out has no word; 1 the bytes are above the domain; 8 the text is too small. */
+ * Refuses: 1 the bytes are above the domain; 5 out has no word; 8 the text is too small. */
 uint32_t utf16_decode(const uint8_t *bytes, size_t bytes_len, uint8_t *text, size_t text_len, uint64_t *out, size_t out_len);
 
 /* A table is lent words, TABLE_SLOT_WORDS for each slot, and the number of its used slots, which are the first ones. An empty one
@@ -149,21 +149,21 @@ enum path_word {
 /* path_resolve: the path of a key: its names from the top down, with a backslash before each, behind what they hang under, as UTF-8
  * at the front of text. The names' places go to the front of chain, the top one first, PATH_PLACE_WORDS words each; chain is left
  * alone where it has no room for all of them, and may be empty. The PATH_WORDS words go to out.
- * Refuses: 5 out has fewer than 5 words; 1 journal or image is above the domain; 9 used is above the slots; 7 the name's place of a
+ * Refuses: 1 journal or image is above the domain; 5 out has fewer than 5 words; 9 used is above the slots; 7 the name's place of a
  * used slot is outside its slice; 8 the text is too small. */
 uint32_t path_resolve(const uint8_t *journal, size_t journal_len, const uint8_t *image, size_t image_len, const uint64_t *slots,
                       size_t slots_len, size_t used, uint64_t entry, uint64_t sequence, uint64_t *chain, size_t chain_len,
                       uint8_t *text, size_t text_len, uint64_t *out, size_t out_len);
 
 /* path_chain: the same without the text; the PATH_CHAIN_WORDS words go to out.
- * Refuses: 5 out has fewer than 4 words; then 1, 9 and 7 as path_resolve. */
+ * Refuses: 1 as path_resolve; 5 out has fewer than 4 words; then 9 and 7 as path_resolve. */
 uint32_t path_chain(const uint8_t *journal, size_t journal_len, const uint8_t *image, size_t image_len, const uint64_t *slots,
                     size_t slots_len, size_t used, uint64_t entry, uint64_t sequence, uint64_t *chain, size_t chain_len,
                     uint64_t *out, size_t out_len);
 
 /* path_decode: the name at a place of the journal (source 0) or of the image (any other), as UTF-8 at the front of text; how many
  * bytes that is goes to out, one word. An odd last byte is dropped.
- * Refuses: 5 out has no word; 1 journal or image is above the domain; 7 the place is outside its slice; 8 the text is too
+ * Refuses: 1 journal or image is above the domain; 5 out has no word; 7 the place is outside its slice; 8 the text is too
  * small. */
 uint32_t path_decode(const uint8_t *journal, size_t journal_len, const uint8_t *image, size_t image_len, uint64_t source,
                      uint64_t offset, uint64_t length, uint8_t *text, size_t text_len, uint64_t *out, size_t out_len);
@@ -179,7 +179,7 @@ enum rewind_start_word {
  * They go into the table of slots from the last to the first, a record with the old name of a rename in place of a known entry, any
  * other where its key is new. The used slots are then copied to the front of forward, whatever it held. The REWIND_START_WORDS
  * words go to out. A slot for each used one and for each record is always enough, and then the keys need not be counted.
- * Refuses: 5 out has fewer than 2 words; 1 journal or image is above the domain; 9 used is above the slots; 12 at a listed offset
+ * Refuses: 1 journal or image is above the domain; 5 out has fewer than 2 words; 9 used is above the slots; 12 at a listed offset
  * stands no record; 7 the name's place of a used slot is outside its slice; 6 the slots of either table are too few for the used
  * ones and the different new keys. */
 uint32_t rewind_start(const uint8_t *journal, size_t journal_len, const uint8_t *image, size_t image_len, const size_t *records,
@@ -206,7 +206,7 @@ enum rewind_step_word {
  * to out, or the first three where no record is left. A step that 8 refused has changed nothing: repeat it with a larger text, or
  * call rewind_next_chain.
  * Every call tests every record that it is lent and every used slot: for many records call rewind_run.
- * Refuses: 5 out has fewer than 8 words; 1 journal or image is above the domain; 9 used is above the slots; 12 at a listed offset
+ * Refuses: 1 journal or image is above the domain; 5 out has fewer than 8 words; 9 used is above the slots; 12 at a listed offset
  * stands no record; 7 the name's place of a used slot is outside its slice; 6 the record's key is new and no slot is left; 8 the
  * text is too small. */
 uint32_t rewind_next(const uint8_t *journal, size_t journal_len, const uint8_t *image, size_t image_len, const size_t *records,
@@ -215,7 +215,7 @@ uint32_t rewind_next(const uint8_t *journal, size_t journal_len, const uint8_t *
 
 /* rewind_next_chain: the same without the text, and it moves on likewise; the REWIND_CHAIN_STEP_WORDS words go to out, or three
  * where no record is left.
- * Refuses: 5 out has fewer than 7 words; then 1, 9, 12, 7 and 6 as rewind_next. */
+ * Refuses: 1 as rewind_next; 5 out has fewer than 7 words; then 9, 12, 7 and 6 as rewind_next. */
 uint32_t rewind_next_chain(const uint8_t *journal, size_t journal_len, const uint8_t *image, size_t image_len,
                            const size_t *records, size_t records_len, size_t used, size_t position, uint64_t *forward,
                            size_t forward_len, uint64_t *chain, size_t chain_len, uint64_t *out, size_t out_len);
@@ -223,7 +223,7 @@ uint32_t rewind_next_chain(const uint8_t *journal, size_t journal_len, const uin
 /* rewind_start_indexed: rewind_start in time that grows with the records, by way of an index as table_seed_indexed has it. The used
  * slots and the records together must not be more than the slots of either table for that: otherwise the different new keys are
  * counted, which takes the records times the slots.
- * Refuses: 5, 1, 9, 12, 7 and 6 as rewind_start. */
+ * Refuses: 1, 5, 9, 12, 7 and 6 as rewind_start. */
 uint32_t rewind_start_indexed(const uint8_t *journal, size_t journal_len, const uint8_t *image, size_t image_len,
                               const size_t *records, size_t records_len, uint64_t *slots, size_t slots_len, size_t used,
                               uint64_t *forward, size_t forward_len, uint64_t *heads, size_t heads_len, uint64_t *nexts,

@@ -1,5 +1,2 @@
-pub mod AnswerLaws
 pub mod RecordLaws
-pub mod JournalLaws
 pub mod WindowLaws
-pub mod CarverLaws

@@ -1,4 +1,1 @@
-pub mod Answers
-pub mod Journal
 pub mod Window
-pub mod Promise

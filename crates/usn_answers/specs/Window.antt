@@ -4,7 +4,9 @@ use mathlib.Core.List.{List, [], _∷_}
 use mathlib.Core.Bool.{cond, not}
 use lib.ListN.{getD}
 use lib.Dec.{eqb}
+use Rattle.walk.specs.Lent.{Lent}
 use Rattle.walk.specs.Outcome.{Outcome, refused, answered}
+use Rattle.walk.specs.Words.{ListPromise}
 use Rattle.usn_record.specs.Record.{recordWords}
 use Rattle.usn_reader.specs.declared.UsnJournalReader.{UsnJournalReader}
 use Rattle.usn_reader.specs.declared.Answer.{Answer}
@@ -50,3 +52,7 @@ outcomeBy End x = answered x
 
 abbrev pub readingOutcome : Reading → Outcome Reading
 readingOutcome x = outcomeBy (x .answer) x
+
+-- what a reading leaves: its list is the words of the window
+abbrev pub ReadingPromise : Outcome Reading → Lent → Lent → ℕ → Type 0
+ReadingPromise o reader out r = ListPromise windowWords readingWords o reader out r

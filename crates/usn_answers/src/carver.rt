@@ -2,12 +2,15 @@
 ghost use mathlib.Core.Path.{_≡_};
 ghost use Prim.Native.Nat.{_≤_};
 ghost use lib.ListN.{length};
+ghost use Rattle.walk.specs.Words.{AnswerPromise};
 ghost use Rattle.usn_carver.specs.Carve.{outcome};
 ghost use Rattle.usn_carver.specs.Events.{statsWords};
-ghost use Rattle.usn_answers.specs.Promise.{AnswerPromise};
 use usn_carver::Carving;
 use usn_carver::CarvingStats;
-use walk::put_words;
+use walk::words::put_row;
+
+// The words of carving's answer.
+pub const STATS_WORDS: usize = 5;
 
 // Carving's answer: 0 with the counters in front of the lent words, or the refusal.
 pub fn put_stats(carving: Carving, out: &mut [u64]) -> u32
@@ -15,17 +18,13 @@ pub fn put_stats(carving: Carving, out: &mut [u64]) -> u32
     ensures { λ r. ⌜ AnswerPromise statsWords (outcome carving) out r ⌝ }
 {
     match carving {
-        Carving::Carved(stats) => {
-            let row = stats_row(stats);
-            put_words(out, 0, &row);
-            0
-        }
+        Carving::Carved(stats) => put_row(&stats_row(stats), out),
         Carving::Refused(n) => n,
     }
 }
 
 // The counters, a word each.
-fn stats_row(stats: CarvingStats) -> [u64; 5]
+fn stats_row(stats: CarvingStats) -> [u64; STATS_WORDS]
     ensures { λ row. ⌜ row ≡ statsWords stats ⌝ }
 {
     [

@@ -1,35 +1,30 @@
 // A parser's answer as a number and words.
 ghost use mathlib.Core.Path.{_≡_};
+ghost use Prim.Native.Nat.{_≤_};
+ghost use lib.ListN.{length};
+ghost use Rattle.walk.specs.Words.{AnswerPromise};
 ghost use Rattle.usn_record.specs.Record.{outcome, recordWords};
-ghost use Rattle.usn_answers.specs.Promise.{RecordPromise};
 use usn_record::Parsed;
 use usn_record::UsnRecord;
 use usn_record::bytes::signed_bits;
-use walk::LIST_FULL;
-use walk::put_words;
+use walk::words::put_row;
 
 // The words of a record.
-const RECORD_WORDS: usize = 19;
+pub const RECORD_WORDS: usize = 19;
 
-// A parser's answer: 0 with the record's words in front of the lent ones, or the refusal; 5 where they have no room.
-pub fn put_record(p: Parsed, words: &mut [u64]) -> u32
-    ensures { λ r. ⌜ RecordPromise (outcome p) words r ⌝ }
+// A parser's answer: 0 with the record's words in front of the lent ones, or the refusal.
+pub fn put_record(parsed: Parsed, out: &mut [u64]) -> u32
+    requires { ⌜ 19 ≤ length (now out) ⌝ }
+    ensures { λ r. ⌜ AnswerPromise recordWords (outcome parsed) out r ⌝ }
 {
-    match p {
-        Parsed::Record(r) => {
-            if words.len() < RECORD_WORDS {
-                return LIST_FULL;
-            }
-            let row = row_of(r);
-            put_words(words, 0, &row);
-            0
-        }
+    match parsed {
+        Parsed::Record(record) => put_row(&row_of(record), out),
         Parsed::Refused(n) => n,
     }
 }
 
 // The record's fields, a word each.
-pub(crate) fn row_of(r: UsnRecord) -> [u64; 19]
+pub(crate) fn row_of(r: UsnRecord) -> [u64; RECORD_WORDS]
     ensures { λ row. ⌜ row ≡ recordWords r ⌝ }
 {
     [

@@ -1,16 +1,21 @@
 // A window over a journal as words, and its answers as a number and words.
 ghost use mathlib.Core.Path.{_≡_};
-ghost use mathlib.Core.List.{[], _∷_};
 ghost use Prim.Native.Nat.{_≤_};
 ghost use lib.ListN.{length};
-ghost use lib.Seq.{sets};
-ghost use Rattle.usn_answers.specs.Promise.{ReadingPromise};
-ghost use Rattle.usn_answers.specs.Window.{readerWords, readerOf, readingOutcome};
+ghost use Rattle.walk.specs.Outcome.{answered};
+ghost use Rattle.walk.specs.Words.{AnswerPromise};
+ghost use Rattle.usn_answers.specs.Window.{readerWords, readerOf, readingOutcome, ReadingPromise};
 use crate::record_words::row_of;
 use usn_reader::Answer;
 use usn_reader::Reading;
 use usn_reader::UsnJournalReader;
-use walk::put_words;
+use walk::words::put_row;
+use walk::words::put_rows;
+
+// The words of a window, and those of its longest answer, a record's.
+pub const READER_WORDS: usize = 6;
+
+pub const READING_WORDS: usize = 22;
 
 // The first word of an answer.
 const KIND_END: u64 = 0;
@@ -34,17 +39,16 @@ pub fn reader_of(words: &[u64]) -> UsnJournalReader
     }
 }
 
-// The window's numbers in front of the lent words.
-pub fn put_reader(w: UsnJournalReader, words: &mut [u64])
+// The window's numbers in front of the lent words. Answers 0.
+pub fn put_reader(w: UsnJournalReader, words: &mut [u64]) -> u32
     requires { ⌜ 6 ≤ length (now words) ⌝ }
-    ensures { λ _. ⌜ now (words .exit) ≡ sets (now (words .entry)) 0 (readerWords w) ⌝ }
+    ensures { λ r. ⌜ AnswerPromise readerWords (answered w) words r ⌝ }
 {
-    let row = reader_row(w);
-    put_words(words, 0, &row);
+    put_row(&reader_row(w), words)
 }
 
 // The window's numbers, a word each.
-fn reader_row(w: UsnJournalReader) -> [u64; 6]
+fn reader_row(w: UsnJournalReader) -> [u64; READER_WORDS]
     ensures { λ row. ⌜ row ≡ readerWords w ⌝ }
 {
     [
@@ -67,35 +71,21 @@ pub fn put_reading(x: Reading, reader: &mut [u64], out: &mut [u64]) -> u32
     match answer {
         Answer::Refused(n) => n,
         Answer::End => {
-            put_three(out, KIND_END, 0, 0);
-            put_reader(w, reader);
-            0
+            put_row(&[KIND_END, 0, 0], out);
+            put_reader(w, reader)
         }
         Answer::Wants { from, bytes } => {
-            put_three(out, KIND_WANTS, from, bytes);
-            put_reader(w, reader);
-            0
+            put_row(&[KIND_WANTS, from as u64, bytes as u64], out);
+            put_reader(w, reader)
         }
         Answer::Record {
             offset,
             length,
             record,
         } => {
-            put_three(out, KIND_RECORD, offset, length);
-            let row = row_of(record);
-            put_words(out, 3, &row);
-            put_reader(w, reader);
-            0
+            let front = [KIND_RECORD, offset as u64, length as u64];
+            put_rows(&front, &row_of(record), out);
+            put_reader(w, reader)
         }
     }
-}
-
-// Three words, in front of the lent ones.
-fn put_three(out: &mut [u64], a: u64, b: usize, c: usize)
-    requires { ⌜ 3 ≤ length (now out) ⌝ }
-    ensures { λ _. ⌜ now (out .exit) ≡ sets (now (out .entry)) 0 (a ∷ b ∷ c ∷ []) ⌝ }
-{
-    out[0] = a;
-    out[1] = b as u64;
-    out[2] = c as u64;
 }

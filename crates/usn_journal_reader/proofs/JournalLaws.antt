@@ -3,10 +3,9 @@ use Prim.Native.Nat.{ℕ}
 use mathlib.Core.Path.{_≡_}
 use mathlib.Core.List.{List}
 use Rattle.walk.specs.Outcome.{Outcome}
+use Rattle.walk.specs.Words.{countWords, Answers}
+use Rattle.walk.proofs.WordLaws.{out-same, out-mapped}
 use Rattle.usn_journal.specs.Outcome.{scan, scanAnswer}
-use Rattle.usn_answers.specs.Journal.{countWords}
-use Rattle.usn_answers.specs.Promise.{Answers}
-use Rattle.usn_answers.proofs.AnswerLaws.{out-same, out-mapped}
 use Rattle.usn_journal_reader.specs.Journal.{journalWords}
 
 -- the number of records that is answered is that of the records that are listed

@@ -1,2 +1,4 @@
+pub mod DomainLaws
+pub mod RecordLaws
 pub mod JournalLaws
 pub mod WindowLaws

@@ -2,16 +2,23 @@
 use Prim.Native.Nat.{ℕ}
 use mathlib.Core.Path.{_≡_}
 use mathlib.Core.List.{List}
+use lib.ListN.{length}
 use Rattle.walk.specs.Lent.{Lent, before, after}
 use Rattle.walk.specs.Lists.{flatten, placeWords}
+use Rattle.walk.specs.Outcome.{Outcome}
+use Rattle.walk.specs.Words.{atDoor, Lists, AnswerPromise, ListPromise}
 use Rattle.usn_record.specs.Layout.{Layout}
-use Rattle.usn_record.specs.Record.{parsed, listed}
+use Rattle.usn_record.specs.Record.{parsed, listed, recordWords}
+use Rattle.usn_record.specs.declared.UsnRecord.{UsnRecord}
 use Rattle.usn_carver.specs.Events.{statsWords}
-use Rattle.usn_answers.specs.Promise.{Lists, AnswerPromise, ListPromise, RecordPromise, ReadingPromise}
-use Rattle.usn_answers.specs.Window.{readerWords, windowWords, readingWords}
+use Rattle.usn_answers.specs.Window.{readerWords, windowWords, readingWords, ReadingPromise}
 use Rattle.usn_journal_reader.specs.Carver.{carveCall, carvedWords}
 use Rattle.usn_journal_reader.specs.Journal.{journalCall, journalWords}
 use Rattle.usn_journal_reader.specs.Window.{newCall, nextCall, giveCall, giveBuffer}
+
+-- a record
+abbrev pub RecordPromise : Outcome UsnRecord → Lent → ℕ → Type 0
+RecordPromise o words r = AnswerPromise recordWords (atDoor 19 (length (before words)) o) words r
 
 -- the record that a slice begins with, and the one at an offset of an extract
 abbrev pub ParsePromise : Layout → Lent → Lent → ℕ → Type 0

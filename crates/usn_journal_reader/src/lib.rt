@@ -9,63 +9,71 @@
 //     usn_carve_records                           the places of the records in raw bytes
 //
 // Every function here is proved, and none has a `requires`. A refused call writes nothing, and one that answers writes the words
-// of its answer alone: those past them stay as they were.
+// of its answer alone: those past them stay as they were. Too few words for the answer are refused with 5 directly behind 1, before
+// everything else; too few words of a window, which a call has to read, before 1 too.
 ghost use Rattle.usn_record.specs.Layout.{v2, v3};
 ghost use Rattle.usn_journal_reader.specs.Promise.{ParsePromise, ListedPromise, JournalPromise, CarvePromise, NewPromise, NextPromise, GivePromise};
+use usn_answers::carver::STATS_WORDS;
 use usn_answers::carver::put_stats;
+use usn_answers::journal::COUNT_WORDS;
 use usn_answers::journal::put_count;
+use usn_answers::record_words::RECORD_WORDS;
 use usn_answers::record_words::put_record;
+use usn_answers::window::READER_WORDS;
+use usn_answers::window::READING_WORDS;
 use usn_answers::window::put_reader;
 use usn_answers::window::put_reading;
 use usn_answers::window::reader_of;
 use usn_reader::UsnJournalReader;
+use walk::DOMAIN;
 use walk::LIST_FULL;
+use walk::words::short;
+use window_numbers::STREAM_DOMAIN;
 
-// The words of a scan's answer.
-const JOURNAL_WORDS: usize = 1;
-// Those of carving's answer.
-const STATS_WORDS: usize = 5;
-// Those of a window.
-const READER_WORDS: usize = 6;
-// And those of a window's longest answer, a record's.
-const ANSWER_WORDS: usize = 22;
-
-// The version 2 record that data begins with, as 19 words. Answers 0, or refuses: 1 data is above the domain, 2 shorter than
-// 60 bytes, 3 the length field is outside 60..65536, 4 it passes data, 5 fewer than 19 words are lent.
+// The version 2 record that data begins with, as 19 words. Answers 0, or refuses: 1 data is above the domain, 5 fewer than 19
+// words are lent, 2 data is shorter than 60 bytes, 3 the length field is outside 60..65536, 4 it passes data.
 #[no_mangle]
 pub extern "C" fn usn_parse_record_v2(data: &[u8], words: &mut [u64]) -> u32
     ensures { λ r. ⌜ ParsePromise v2 «data» words r ⌝ }
 {
+    if words.len() < RECORD_WORDS {
+        return short(DOMAIN < data.len());
+    }
     put_record(usn_record::parse_usn_record_v2(data), words)
 }
 
-// The version 3 record that data begins with, as 19 words. Answers 0, or refuses: 1 data is above the domain, 2 shorter than
-// 76 bytes, 3 the length field is outside 76..65536, 5 fewer than 19 words are lent.
+// The version 3 record that data begins with, as 19 words. Answers 0, or refuses: 1 data is above the domain, 5 fewer than 19
+// words are lent, 2 data is shorter than 76 bytes, 3 the length field is outside 76..65536.
 #[no_mangle]
 pub extern "C" fn usn_parse_record_v3(data: &[u8], words: &mut [u64]) -> u32
     ensures { λ r. ⌜ ParsePromise v3 «data» words r ⌝ }
 {
+    if words.len() < RECORD_WORDS {
+        return short(DOMAIN < data.len());
+    }
     put_record(usn_record::parse_usn_record_v3(data), words)
 }
 
-// The record at an offset of an extract, as 19 words. Answers 0, or refuses: 12 no version 2 or 3 record that its parser
-// accepts stands there, 5 fewer than 19 words are lent.
+// The record at an offset of an extract, as 19 words. Answers 0, or refuses: 5 fewer than 19 words are lent, 12 no version 2 or
+// 3 record that its parser accepts stands there.
 #[no_mangle]
 pub extern "C" fn usn_listed_record(extract: &[u8], offset: usize, words: &mut [u64]) -> u32
     ensures { λ r. ⌜ ListedPromise extract offset words r ⌝ }
 {
+    if words.len() < RECORD_WORDS {
+        return LIST_FULL;
+    }
     put_record(usn_record::listed_record(extract, offset), words)
 }
 
 // The version 2 and 3 records of an extract, in order: how many, a word of out, and for each its offset and length, two words
-// of list. Answers 0, or refuses: 5 out has no word, 1 the extract is above the domain, 5 list has fewer than two words for each
-// record.
+// of list. Answers 0, or refuses: 1 the extract is above the domain, 5 out has no word, or list fewer than two for each record.
 #[no_mangle]
 pub extern "C" fn usn_parse_journal(extract: &[u8], list: &mut [usize], out: &mut [u64]) -> u32
     ensures { λ r. ⌜ JournalPromise extract list out r ⌝ }
 {
-    if out.len() < JOURNAL_WORDS {
-        return LIST_FULL;
+    if out.len() < COUNT_WORDS {
+        return short(DOMAIN < extract.len());
     }
     put_count(usn_journal::parse_usn_journal(extract, list), out)
 }
@@ -80,13 +88,12 @@ pub extern "C" fn usn_reader_new(total: u64, reader: &mut [u64]) -> u32
     if reader.len() < READER_WORDS {
         return LIST_FULL;
     }
-    put_reader(UsnJournalReader::new(total as usize), reader);
-    0
+    put_reader(UsnJournalReader::new(total as usize), reader)
 }
 
 // The next record of the journal, 22 words of out: 2, its offset in the journal, its length and its 19 words, the name's place
 // counted from the buffer's start. Or 3 words: 1, from where on bytes are wanted first, how many; or 0, 0, 0 at the end.
-// Answers 0, or refuses: 5 reader has fewer than 6 words or out fewer than 22, 1 the total is above 1099511627776,
+// Answers 0, or refuses: 5 reader has fewer than 6 words, 1 the total is above 1099511627776, 5 out has fewer than 22 words,
 // 11 the buffer is not 65536 long, 9 the numbers cannot be a window's.
 #[no_mangle]
 pub extern "C" fn usn_reader_next(reader: &mut [u64], buffer: &[u8], out: &mut [u64]) -> u32
@@ -95,10 +102,10 @@ pub extern "C" fn usn_reader_next(reader: &mut [u64], buffer: &[u8], out: &mut [
     if reader.len() < READER_WORDS {
         return LIST_FULL;
     }
-    if out.len() < ANSWER_WORDS {
-        return LIST_FULL;
-    }
     let w = reader_of(reader);
+    if out.len() < READING_WORDS {
+        return short(STREAM_DOMAIN < w.total);
+    }
     put_reading(w.next(buffer), reader, out)
 }
 
@@ -117,23 +124,22 @@ pub extern "C" fn usn_reader_give(
     if reader.len() < READER_WORDS {
         return LIST_FULL;
     }
-    if out.len() < ANSWER_WORDS {
-        return LIST_FULL;
-    }
     let w = reader_of(reader);
+    if out.len() < READING_WORDS {
+        return short(STREAM_DOMAIN < w.total);
+    }
     put_reading(w.give(buffer, bytes), reader, out)
 }
 
 // The version 2 and 3 records in raw bytes: for each its offset and length, two words of list, and 5 words of out: the bytes
 // scanned, the candidates examined, the records carved, the candidates rejected for their time and for their structure.
-// Answers 0, or refuses: 5 out has fewer than 5 words, 1 the extract is above the domain, 5 list has fewer than two words for
-// each record.
+// Answers 0, or refuses: 1 the extract is above the domain, 5 out has fewer than 5 words, or list fewer than two for each record.
 #[no_mangle]
 pub extern "C" fn usn_carve_records(extract: &[u8], list: &mut [usize], out: &mut [u64]) -> u32
     ensures { λ r. ⌜ CarvePromise extract list out r ⌝ }
 {
     if out.len() < STATS_WORDS {
-        return LIST_FULL;
+        return short(DOMAIN < extract.len());
     }
     put_stats(usn_carver::carve_usn_records(extract, list), out)
 }

@@ -1,2 +1,3 @@
-pub mod AnswerLaws
+pub mod DomainLaws
+pub mod PathLaws
 pub mod RewindLaws

@@ -2,8 +2,7 @@
 ghost use mathlib.Core.Path.{_≡_};
 ghost use Prim.Native.Nat.{_≤_};
 ghost use lib.ListN.{length};
-ghost use Rattle.usn_answers.specs.Promise.{AnswerPromise};
-ghost use Rattle.usn_answers.specs.Journal.{countWords};
+ghost use Rattle.walk.specs.Words.{AnswerPromise, countWords};
 ghost use Rattle.mft_carver.specs.Carve.{statsWords, outcome as carvingOutcome};
 ghost use Rattle.utf16.specs.Decoding.{outcome as decodingOutcome};
 ghost use Rattle.entry_table.specs.Promise.{outcome as storingOutcome};
@@ -11,32 +10,28 @@ use entry_table::Stored;
 use mft_carver::MftCarving;
 use mft_carver::MftCarvingStats;
 use utf16::Decoded;
-use walk::put_words;
+use walk::words::put_row;
 
 // The words of carving's answer, of decoding's, and of storing's.
-pub const STATS_WORDS: usize = 4;
+pub const IMAGE_STATS_WORDS: usize = 4;
 
 pub const TEXT_WORDS: usize = 1;
 
 pub const USED_WORDS: usize = 1;
 
 // Carving's answer: 0 with the counters in front of the lent words, or the refusal.
-pub fn put_stats(carving: MftCarving, out: &mut [u64]) -> u32
+pub fn put_image_stats(carved: MftCarving, out: &mut [u64]) -> u32
     requires { ⌜ 4 ≤ length (now out) ⌝ }
-    ensures { λ r. ⌜ AnswerPromise statsWords (carvingOutcome carving) out r ⌝ }
+    ensures { λ r. ⌜ AnswerPromise statsWords (carvingOutcome carved) out r ⌝ }
 {
-    match carving {
-        MftCarving::Carved(stats) => {
-            let row = stats_row(stats);
-            put_words(out, 0, &row);
-            0
-        }
+    match carved {
+        MftCarving::Carved(stats) => put_row(&image_stats_row(stats), out),
         MftCarving::Refused(n) => n,
     }
 }
 
 // The counters, a word each.
-fn stats_row(stats: MftCarvingStats) -> [u64; 4]
+fn image_stats_row(stats: MftCarvingStats) -> [u64; IMAGE_STATS_WORDS]
     ensures { λ row. ⌜ row ≡ statsWords stats ⌝ }
 {
     [
@@ -53,10 +48,7 @@ pub fn put_length(decoded: Decoded, out: &mut [u64]) -> u32
     ensures { λ r. ⌜ AnswerPromise countWords (decodingOutcome decoded) out r ⌝ }
 {
     match decoded {
-        Decoded::Text(n) => {
-            out[0] = n as u64;
-            0
-        }
+        Decoded::Text(n) => put_row(&[n as u64], out),
         Decoded::Refused(n) => n,
     }
 }
@@ -67,10 +59,7 @@ pub fn put_used(stored: Stored, out: &mut [u64]) -> u32
     ensures { λ r. ⌜ AnswerPromise countWords (storingOutcome stored) out r ⌝ }
 {
     match stored {
-        Stored::Used(used) => {
-            out[0] = used as u64;
-            0
-        }
+        Stored::Used(used) => put_row(&[used as u64], out),
         Stored::Refused(n) => n,
     }
 }

@@ -2,7 +2,8 @@
 // and words at the front of a lent list. A refusal writes no word.
 //
 // Every function here is proved: the number and the words are those of the answer, and the words past them stay as they were. The
-// functions ask for a list with room for the words: they are helpers of our own crates and not offered as calls.
+// writers ask for a list with room for the words: they are helpers of our own crates and not offered as calls.
 pub mod answers;
+pub mod domain;
 pub mod paths;
 pub mod rewinds;

@@ -2,7 +2,7 @@
 ghost use mathlib.Core.Path.{_≡_};
 ghost use Prim.Native.Nat.{_≤_};
 ghost use lib.ListN.{length};
-ghost use Rattle.usn_answers.specs.Promise.{AnswerPromise};
+ghost use Rattle.walk.specs.Words.{AnswerPromise};
 ghost use Rattle.chain.specs.Tracing.{outcome as chainOutcome};
 ghost use Rattle.path.specs.Written.{outcome as pathOutcome};
 ghost use Rattle.volume_answers.specs.Path.{endNumbers, resolvedWords, writtenWords};
@@ -10,7 +10,7 @@ use chain::ChainAnswer;
 use chain::ChainEnd;
 use chain::ResolvedPath;
 use path::PathAnswer;
-use walk::put_words;
+use walk::words::put_row;
 
 // The words of a path's answer without text, and with it.
 pub const CHAIN_WORDS: usize = 4;
@@ -30,11 +30,7 @@ pub fn put_chain(answer: ChainAnswer, out: &mut [u64]) -> u32
     ensures { λ r. ⌜ AnswerPromise resolvedWords (chainOutcome answer) out r ⌝ }
 {
     match answer {
-        ChainAnswer::Resolved(path) => {
-            let row = resolved_row(path);
-            put_words(out, 0, &row);
-            0
-        }
+        ChainAnswer::Resolved(path) => put_row(&resolved_row(path), out),
         ChainAnswer::Refused(n) => n,
     }
 }
@@ -45,17 +41,13 @@ pub fn put_path(answer: PathAnswer, out: &mut [u64]) -> u32
     ensures { λ r. ⌜ AnswerPromise writtenWords (pathOutcome answer) out r ⌝ }
 {
     match answer {
-        PathAnswer::Path { path, text } => {
-            let row = told_row(path, text);
-            put_words(out, 0, &row);
-            0
-        }
+        PathAnswer::Path { path, text } => put_row(&told_row(path, text), out),
         PathAnswer::Refused(n) => n,
     }
 }
 
 // Names and end.
-pub(crate) fn resolved_row(path: ResolvedPath) -> [u64; 4]
+pub(crate) fn resolved_row(path: ResolvedPath) -> [u64; CHAIN_WORDS]
     ensures { λ row. ⌜ row ≡ resolvedWords path ⌝ }
 {
     let last = path.end;
@@ -64,7 +56,7 @@ pub(crate) fn resolved_row(path: ResolvedPath) -> [u64; 4]
 }
 
 // Names, end and the text's length.
-pub(crate) fn told_row(path: ResolvedPath, text: usize) -> [u64; 5]
+pub(crate) fn told_row(path: ResolvedPath, text: usize) -> [u64; PATH_WORDS]
     ensures { λ row. ⌜ row ≡ writtenWords (record { path = path; text = text }) ⌝ }
 {
     let last = path.end;

@@ -3,8 +3,7 @@ ghost use mathlib.Core.Path.{_≡_};
 ghost use mathlib.Core.List.{_∷_};
 ghost use Prim.Native.Nat.{_≤_};
 ghost use lib.ListN.{length};
-ghost use lib.Seq.{sets};
-ghost use Rattle.usn_answers.specs.Promise.{AnswerPromise};
+ghost use Rattle.walk.specs.Words.{AnswerPromise};
 ghost use Rattle.rewind.specs.Starting.{startOutcome};
 ghost use Rattle.rewind.specs.Stepping.{outcome as stepOutcome};
 ghost use Rattle.rewind.specs.Written.{writtenOutcome};
@@ -18,7 +17,8 @@ use rewind::NextPath;
 use rewind::PathStep;
 use rewind::Rewind;
 use rewind::Started;
-use walk::put_words;
+use walk::words::put_row;
+use walk::words::put_rows;
 
 // The words of a start's answer, and those of the longest answer of a step, a record's, without text and with it.
 pub const START_WORDS: usize = 2;
@@ -38,11 +38,7 @@ pub fn put_start(started: Started, out: &mut [u64]) -> u32
     ensures { λ r. ⌜ AnswerPromise rewindWords (startOutcome started) out r ⌝ }
 {
     match started {
-        Started::Begun(rewind) => {
-            let row = rewind_row(rewind);
-            put_words(out, 0, &row);
-            0
-        }
+        Started::Begun(rewind) => put_row(&rewind_row(rewind), out),
         Started::Refused(n) => n,
     }
 }
@@ -55,17 +51,11 @@ pub fn put_chain_step(step: ChainStep, out: &mut [u64]) -> u32
     let rewind = step.rewind;
     let next = step.next;
     match next {
-        NextChain::Refused(n) => n,
-        NextChain::End => {
-            put_state(out, KIND_END, rewind);
-            0
-        }
         NextChain::Record(path) => {
-            put_state(out, KIND_RECORD, rewind);
-            let row = resolved_row(path);
-            put_words(out, 3, &row);
-            0
+            put_rows(&state_row(KIND_RECORD, rewind), &resolved_row(path), out)
         }
+        NextChain::End => put_row(&state_row(KIND_END, rewind), out),
+        NextChain::Refused(n) => n,
     }
 }
 
@@ -77,33 +67,24 @@ pub fn put_path_step(step: PathStep, out: &mut [u64]) -> u32
     let rewind = step.rewind;
     let next = step.next;
     match next {
-        NextPath::Refused(n) => n,
-        NextPath::End => {
-            put_state(out, KIND_END, rewind);
-            0
-        }
         NextPath::Record { path, text } => {
-            put_state(out, KIND_RECORD, rewind);
-            let row = told_row(path, text);
-            put_words(out, 3, &row);
-            0
+            put_rows(&state_row(KIND_RECORD, rewind), &told_row(path, text), out)
         }
+        NextPath::End => put_row(&state_row(KIND_END, rewind), out),
+        NextPath::Refused(n) => n,
     }
 }
 
 // The state, a word each number.
-fn rewind_row(rewind: Rewind) -> [u64; 2]
+fn rewind_row(rewind: Rewind) -> [u64; START_WORDS]
     ensures { λ row. ⌜ row ≡ rewindWords rewind ⌝ }
 {
     [rewind.used as u64, rewind.position as u64]
 }
 
-// What a step answers, and the state after it, in front of the lent words.
-fn put_state(out: &mut [u64], kind: u64, rewind: Rewind)
-    requires { ⌜ 3 ≤ length (now out) ⌝ }
-    ensures { λ _. ⌜ now (out .exit) ≡ sets (now (out .entry)) 0 (kind ∷ rewindWords rewind) ⌝ }
+// What a step answers, and the state after it.
+fn state_row(kind: u64, rewind: Rewind) -> [u64; 3]
+    ensures { λ row. ⌜ row ≡ kind ∷ rewindWords rewind ⌝ }
 {
-    out[0] = kind;
-    out[1] = rewind.used as u64;
-    out[2] = rewind.position as u64;
+    [kind, rewind.used as u64, rewind.position as u64]
 }

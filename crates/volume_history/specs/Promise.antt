@@ -7,9 +7,7 @@ use mathlib.Core.Bool.{Bool}
 use Rattle.walk.specs.Lent.{Lent, before, after}
 use Rattle.walk.specs.Lists.{listAfter}
 use Rattle.walk.specs.Outcome.{Outcome}
-use Rattle.usn_answers.specs.Answers.{number}
-use Rattle.usn_answers.specs.Journal.{countWords}
-use Rattle.usn_answers.specs.Promise.{ListPromise}
+use Rattle.walk.specs.Words.{number, countWords, ListPromise}
 use Rattle.mft_carver.specs.Carve.{statsWords}
 use Rattle.entry_slots.specs.Slots.{slotsIn}
 use Rattle.entry_slots.specs.Table.{Table}

@@ -10,7 +10,8 @@
 //     path_decode          the text of a stored name
 //
 // Every function here is proved, and none has a `requires`. A refused call writes nothing. One that answers writes of its list the words
-// of its answer alone: those past them stay as they were. What lies in the words for an index, specs/Promise.antt says.
+// of its answer alone: those past them stay as they were. Too few words for the answer are refused with 5 directly behind 1, before
+// everything else. What lies in the words for an index, specs/Promise.antt says.
 ghost use mathlib.Core.Path.{_≡_};
 ghost use mathlib.Core.Bool.{true, false};
 ghost use Rattle.path_text.specs.Decoding.{place};
@@ -19,41 +20,43 @@ ghost use Rattle.volume_history.specs.Table.{keyOf, infoOf};
 use entry_slots::EntryInfo;
 use entry_slots::EntryKey;
 use entry_slots::NamePlace;
-use volume_answers::answers::STATS_WORDS;
+use volume_answers::answers::IMAGE_STATS_WORDS;
 use volume_answers::answers::TEXT_WORDS;
 use volume_answers::answers::USED_WORDS;
+use volume_answers::answers::put_image_stats;
 use volume_answers::answers::put_length;
-use volume_answers::answers::put_stats;
 use volume_answers::answers::put_used;
+use volume_answers::domain::short_over;
 use volume_answers::paths::CHAIN_WORDS;
 use volume_answers::paths::PATH_WORDS;
 use volume_answers::paths::put_chain;
 use volume_answers::paths::put_path;
+use walk::DOMAIN;
 use walk::LIST_FULL;
+use walk::words::short;
 
 // The MFT entries in an image: for each nine words of list, namely its offset, number and sequence, its name's offset and length
 // in bytes, its parent's entry and sequence, and 1 or 0 for a directory and for in use. And 4 words of out: the bytes scanned, the
 // candidates examined, the entries carved and the candidates rejected.
-// Answers 0, or refuses: 5 out has fewer than 4 words, 1 the image is above the domain, 5 list has fewer than nine words for each
-// entry.
+// Answers 0, or refuses: 1 the image is above the domain, 5 out has fewer than 4 words, or list fewer than nine for each entry.
 #[no_mangle]
 pub extern "C" fn mft_carve_entries(image: &[u8], list: &mut [u64], out: &mut [u64]) -> u32
     ensures { λ r. ⌜ CarveCallPromise image list out r ⌝ }
 {
-    if out.len() < STATS_WORDS {
-        return LIST_FULL;
+    if out.len() < IMAGE_STATS_WORDS {
+        return short(DOMAIN < image.len());
     }
-    put_stats(mft_carver::carve_mft_entries(image, list), out)
+    put_image_stats(mft_carver::carve_mft_entries(image, list), out)
 }
 
 // The UTF-16 units of a name's bytes as UTF-8, in front of text, and how many bytes that takes, a word of out.
-// Answers 0, or refuses: 5 out has no word, 1 the bytes are above the domain, 8 the text is too small.
+// Answers 0, or refuses: 1 the bytes are above the domain, 5 out has no word, 8 the text is too small.
 #[no_mangle]
 pub extern "C" fn utf16_decode(bytes: &[u8], text: &mut [u8], out: &mut [u64]) -> u32
     ensures { λ r. ⌜ DecodeCallPromise bytes text out r ⌝ }
 {
     if out.len() < TEXT_WORDS {
-        return LIST_FULL;
+        return short(DOMAIN < bytes.len());
     }
     put_length(utf16::decode_utf16(bytes, text), out)
 }
@@ -178,7 +181,7 @@ pub extern "C" fn table_seed_indexed(
 // words each: source, offset, length; chain is left alone where it has no room for all of them. 5 words of out: the names, what
 // they hang under (0 the root, 1 an unknown key, 2 an unresolved one), that key's entry and sequence (0, 0 for the root), and the
 // bytes of the text.
-// Answers 0, or refuses: 5 out has fewer than 5 words, 1 journal or image is above the domain, 9 used is above the slots, 7 the
+// Answers 0, or refuses: 1 journal or image is above the domain, 5 out has fewer than 5 words, 9 used is above the slots, 7 the
 // name's place of a used slot is outside its slice, 8 the text is too small.
 #[no_mangle]
 pub extern "C" fn path_resolve(
@@ -195,7 +198,7 @@ pub extern "C" fn path_resolve(
     ensures { λ r. ⌜ ResolvePromise journal image slots used (keyOf entry sequence) chain text out r ⌝ }
 {
     if out.len() < PATH_WORDS {
-        return LIST_FULL;
+        return short_over(journal, image);
     }
     put_path(
         path::path(
@@ -212,7 +215,7 @@ pub extern "C" fn path_resolve(
 }
 
 // The path of a key without its text: 4 words of out, as above but for the text's bytes.
-// Answers 0, or refuses: 5 out has fewer than 4 words, 1, 9 and 7 as above.
+// Answers 0, or refuses: 1 as above, 5 out has fewer than 4 words, 9 and 7 as above.
 #[no_mangle]
 pub extern "C" fn path_chain(
     journal: &[u8],
@@ -227,7 +230,7 @@ pub extern "C" fn path_chain(
     ensures { λ r. ⌜ ChainCallPromise journal image slots used (keyOf entry sequence) chain out r ⌝ }
 {
     if out.len() < CHAIN_WORDS {
-        return LIST_FULL;
+        return short_over(journal, image);
     }
     put_chain(
         chain::path_chain(
@@ -244,7 +247,7 @@ pub extern "C" fn path_chain(
 
 // The name at a place of the journal (source 0) or of the image (any other), as UTF-8 in front of text, and how many bytes that
 // takes, a word of out.
-// Answers 0, or refuses: 5 out has no word, 1 journal or image is above the domain, 7 the place is outside its slice, 8 the text
+// Answers 0, or refuses: 1 journal or image is above the domain, 5 out has no word, 7 the place is outside its slice, 8 the text
 // is too small.
 #[no_mangle]
 pub extern "C" fn path_decode(
@@ -259,7 +262,7 @@ pub extern "C" fn path_decode(
     ensures { λ r. ⌜ PlaceCallPromise journal image (place source offset length) text out r ⌝ }
 {
     if out.len() < TEXT_WORDS {
-        return LIST_FULL;
+        return short_over(journal, image);
     }
     put_length(
         path_text::decode(journal, image, source, offset, length, text),

@@ -1,2 +1,3 @@
+pub mod DomainLaws
 pub mod StepLaws
 pub mod CallLaws

@@ -5,7 +5,7 @@ use mathlib.Core.List.{List}
 use Rattle.walk.specs.Lent.{Lent, before, after}
 use Rattle.walk.specs.Lists.{listAfter}
 use Rattle.walk.specs.Outcome.{Outcome, mapOutcome}
-use Rattle.usn_answers.specs.Answers.{number}
+use Rattle.walk.specs.Words.{number}
 use Rattle.entry_slots.specs.Slots.{slotsIn}
 use Rattle.entry_slots.specs.Table.{Table}
 use Rattle.entry_slots.specs.Index.{headsLeft, nextsLeft}

@@ -7,28 +7,27 @@
 //     rewind_run              many of rewind_next in one call, by way of an index
 //
 // Every function here is proved, and none has a `requires`. A refused call writes nothing. One that answers writes of its list the words
-// of its answer alone: those past them stay as they were. What lies in the words for an index, specs/Promise.antt says.
+// of its answer alone: those past them stay as they were. Too few words for the answer are refused with 5 directly behind 1, before
+// everything else. What lies in the words for an index, specs/Promise.antt says.
 ghost use mathlib.Core.Path.{_≡_};
 ghost use Rattle.volume_rewinds.specs.Promise.{StartCallPromise, NextChainCallPromise, NextCallPromise, StartIndexedCallPromise, RunCallPromise};
 ghost use Rattle.volume_rewinds.specs.Rewind.{rewindOf};
 ghost use Prim.Native.Nat.{_≤_};
 ghost use lib.ListN.{length};
-ghost use Rattle.usn_answers.specs.Promise.{AnswerPromise};
+ghost use Rattle.walk.specs.Words.{AnswerPromise};
 ghost use Rattle.rewind_run.specs.Running.{runOutcome};
-ghost use Rattle.volume_rewinds.specs.Run.{rowOf, shortNumber};
+ghost use Rattle.volume_rewinds.specs.Run.{rowOf};
 use rewind::Rewind;
 use rewind_run::RewindRun;
 use rewind_run::RunAnswer;
+use volume_answers::domain::short_over;
 use volume_answers::rewinds::CHAIN_STEP_WORDS;
 use volume_answers::rewinds::PATH_STEP_WORDS;
 use volume_answers::rewinds::START_WORDS;
 use volume_answers::rewinds::put_chain_step;
 use volume_answers::rewinds::put_path_step;
 use volume_answers::rewinds::put_start;
-use walk::ABOVE_DOMAIN;
-use walk::DOMAIN;
-use walk::LIST_FULL;
-use walk::put_words;
+use walk::words::put_row;
 
 // The words of a run's answer.
 const RUN_WORDS: usize = 4;
@@ -37,7 +36,7 @@ const RUN_WORDS: usize = 4;
 // of seven words a slot, of which used are used, from the last to the first, an old name of a rename in place of a known entry and
 // any other where its key is new. The used slots are then copied to the front of forward. 2 words of out, the state: the used slots
 // of both tables, and how many records are behind, 0.
-// Answers 0, or refuses: 5 out has fewer than 2 words, 1 journal or image is above the domain, 9 used is above the slots, 12 at a
+// Answers 0, or refuses: 1 journal or image is above the domain, 5 out has fewer than 2 words, 9 used is above the slots, 12 at a
 // listed offset stands no record, 7 the name's place of a used slot is outside its slice, 6 the slots of either table are too few
 // for the used ones and the different new keys.
 #[no_mangle]
@@ -53,7 +52,7 @@ pub extern "C" fn rewind_start(
     ensures { λ r. ⌜ StartCallPromise journal image records slots used forward out r ⌝ }
 {
     if out.len() < START_WORDS {
-        return LIST_FULL;
+        return short_over(journal, image);
     }
     put_start(
         rewind::rewind_start(journal, image, records, slots, used, forward),
@@ -66,7 +65,7 @@ pub extern "C" fn rewind_start(
 // the places of its parent's path to chain, as path_resolve leaves them. 8 words of out: 1, the state after it, namely the used
 // slots and how many records are behind, and the 5 words of path_resolve, of which the first four are those of the parent's path and
 // the last is the bytes of the record's own. Or 3 words where no record is left: 0 and the state.
-// Answers 0, or refuses: 5 out has fewer than 8 words, 1 journal or image is above the domain, 9 used is above the slots, 12 at a
+// Answers 0, or refuses: 1 journal or image is above the domain, 5 out has fewer than 8 words, 9 used is above the slots, 12 at a
 // listed offset stands no record, 7 the name's place of a used slot is outside its slice, 6 the record's key is new and no slot is
 // left, 8 the text is too small.
 #[no_mangle]
@@ -84,7 +83,7 @@ pub extern "C" fn rewind_next(
     ensures { λ r. ⌜ NextCallPromise journal image records (rewindOf used position) forward chain text out r ⌝ }
 {
     if out.len() < PATH_STEP_WORDS {
-        return LIST_FULL;
+        return short_over(journal, image);
     }
     put_path_step(
         rewind::rewind_next(
@@ -101,7 +100,7 @@ pub extern "C" fn rewind_next(
 }
 
 // The same without its text: 7 words of out, as above but for the text's bytes, or 3 where no record is left.
-// Answers 0, or refuses: 5 out has fewer than 7 words, 1, 9, 12, 7 and 6 as above.
+// Answers 0, or refuses: 1 as above, 5 out has fewer than 7 words, 9, 12, 7 and 6 as above.
 #[no_mangle]
 pub extern "C" fn rewind_next_chain(
     journal: &[u8],
@@ -116,7 +115,7 @@ pub extern "C" fn rewind_next_chain(
     ensures { λ r. ⌜ NextChainCallPromise journal image records (rewindOf used position) forward chain out r ⌝ }
 {
     if out.len() < CHAIN_STEP_WORDS {
-        return LIST_FULL;
+        return short_over(journal, image);
     }
     put_chain_step(
         rewind::rewind_next_chain(
@@ -148,7 +147,7 @@ pub extern "C" fn rewind_start_indexed(
     ensures { λ r. ⌜ StartIndexedCallPromise journal image records slots used forward heads nexts out r ⌝ }
 {
     if out.len() < START_WORDS {
-        return LIST_FULL;
+        return short_over(journal, image);
     }
     put_start(
         rewind::rewind_start_indexed(journal, image, records, slots, used, forward, heads, nexts),
@@ -179,7 +178,7 @@ pub extern "C" fn rewind_run(
     ensures { λ r. ⌜ RunCallPromise journal image records (rewindOf used position) forward heads nexts ends text out r ⌝ }
 {
     if out.len() < RUN_WORDS {
-        return short_number(journal.len(), image.len());
+        return short_over(journal, image);
     }
     let from = Rewind { used, position };
     put_run(
@@ -198,30 +197,13 @@ pub extern "C" fn rewind_run(
     )
 }
 
-// The refusal of a call with too few words for its answer.
-fn short_number(journal_length: usize, image_length: usize) -> u32
-    ensures { λ r. ⌜ r ≡ shortNumber «journal_length» «image_length» ⌝ }
-{
-    if DOMAIN < journal_length {
-        return ABOVE_DOMAIN;
-    }
-    if DOMAIN < image_length {
-        return ABOVE_DOMAIN;
-    }
-    LIST_FULL
-}
-
 // The answer of a call: 0 with the words of its run in front of the lent ones, or the refusal.
 fn put_run(answer: RunAnswer, out: &mut [u64]) -> u32
     requires { ⌜ 4 ≤ length (now out) ⌝ }
     ensures { λ r. ⌜ AnswerPromise rowOf (runOutcome answer) out r ⌝ }
 {
     match answer {
-        RunAnswer::Ran(run) => {
-            let row = run_row(run);
-            put_words(out, 0, &row);
-            0
-        }
+        RunAnswer::Ran(run) => put_row(&run_row(run), out),
         RunAnswer::Refused(n) => n,
     }
 }

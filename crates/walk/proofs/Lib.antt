@@ -1,5 +1,6 @@
 pub mod ChoiceLaws
 pub mod WalkLaws
 pub mod ListLaws
+pub mod WordLaws
 pub mod AgreeLaws
 pub mod MaskedLaws

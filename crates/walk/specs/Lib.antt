@@ -6,3 +6,4 @@ pub mod Walk
 pub mod Agree
 pub mod Masked
 pub mod Lent
+pub mod Words

@@ -1,7 +1,10 @@
-// What every reader of NTFS history shares: refusal numbers, places in lent slices, and the stores of a row of words in a
-// lent list. The definitions and laws of walks over offsets, lent lists and outcomes stand in specs/ and proofs/.
+// What every reader of NTFS history shares: refusal numbers, places in lent slices, the stores of a row of words in a lent list,
+// and how an answer goes out of a C function (words). The definitions and laws of walks over offsets, lent lists and outcomes stand
+// in specs/ and proofs/.
 //
 // Every function here is proved. The writers ask for room: they are helpers of our own crates and not offered as calls.
+pub mod words;
+
 ghost use mathlib.Core.Path.{_≡_};
 ghost use mathlib.Core.List.{[], _∷_};
 ghost use Prim.Native.Nat.{_+_, _≤_};

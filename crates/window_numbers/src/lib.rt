@@ -7,7 +7,7 @@ ghost use Rattle.window_numbers.specs.Numbers.{windowEnd, wrongEnd, numb
 // The bytes of a window, and the length of the buffer that is lent for it.
 pub const WINDOW_SIZE: usize = 65536;
 // The most bytes of a stream.
-const STREAM_DOMAIN: usize = 1099511627776;
+pub const STREAM_DOMAIN: usize = 1099511627776;
 
 // The number of the refusal of a call with a buffer of so many bytes, or 0.
 pub fn refusal(

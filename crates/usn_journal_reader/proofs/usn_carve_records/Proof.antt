@@ -1,11 +1,15 @@
--- Too few words are refused first; otherwise carving's equations say what goes out.
+-- Too few words are refused behind the domain; otherwise carving's equations say what goes out.
 use borrow.Author.Needs.{needs}
-use Rattle.usn_answers.proofs.AnswerLaws.{out-same, lists-short, lists-answered}
+use Rattle.walk.proofs.WordLaws.{out-same, lists-short, lists-answered}
+use Rattle.usn_journal_reader.proofs.DomainLaws.{carving-domain}
 use Rattle.usn_journal_reader.proofs.usn_carve_records.Statement.{statement}
 use Rattle.usn_journal_reader.proofs.usn_carve_records.Tie as tie
 
+short-requires : tie.Need-short-requires
+short-requires c κs = search needs
+
 returns : tie.Need-returns
-returns c = lists-short _ _ 5 _ _ _ (c .if1 .taken)
+returns c = lists-short _ _ 5 _ _ _ (carving-domain _ _ _) (c .before .if1 .taken) (c .short .ensures)
 
 carve-usn-records-requires : tie.Need-carve-usn-records-requires
 carve-usn-records-requires c κs = search needs
@@ -26,6 +30,7 @@ pub usn-carve-records-spec : {M : Type 1} → statement M
 usn-carve-records-spec =
     tie.close
     (tie.spec
+    short-requires
     returns
     carve-usn-records-requires
     put-stats-requires

@@ -1,12 +1,16 @@
--- Too few words are refused first; otherwise the scan's equations say what goes out.
+-- Too few words are refused behind the domain; otherwise the scan's equations say what goes out.
 use borrow.Author.Needs.{needs}
-use Rattle.usn_answers.proofs.AnswerLaws.{lists-short, lists-answered}
+use Rattle.walk.proofs.WordLaws.{lists-short, lists-answered}
+use Rattle.usn_journal_reader.proofs.DomainLaws.{scan-domain}
 use Rattle.usn_journal_reader.proofs.JournalLaws.{journal-out}
 use Rattle.usn_journal_reader.proofs.usn_parse_journal.Statement.{statement}
 use Rattle.usn_journal_reader.proofs.usn_parse_journal.Tie as tie
 
+short-requires : tie.Need-short-requires
+short-requires c κs = search needs
+
 returns : tie.Need-returns
-returns c = lists-short _ _ 1 _ _ _ (c .if1 .taken)
+returns c = lists-short _ _ 1 _ _ _ (scan-domain _ _) (c .before .if1 .taken) (c .short .ensures)
 
 parse-usn-journal-requires : tie.Need-parse-usn-journal-requires
 parse-usn-journal-requires c κs = search needs
@@ -27,6 +31,7 @@ pub usn-parse-journal-spec : {M : Type 1} → statement M
 usn-parse-journal-spec =
     tie.close
     (tie.spec
+    short-requires
     returns
     parse-usn-journal-requires
     put-count-requires

@@ -1,12 +1,17 @@
--- Too few words are refused first; otherwise the chain's equations say what goes out.
-use Rattle.usn_answers.proofs.AnswerLaws.{out-same, out-mapped}
-use Rattle.volume_history.proofs.CallLaws.{traces-short, traces-answered}
+-- Too few words are refused behind the domain; otherwise the chain's equations say what goes out.
+use denote.Ref.{now}
 use borrow.Author.Needs.{needs}
+use Rattle.walk.proofs.WordLaws.{out-same, out-mapped}
+use Rattle.volume_history.proofs.DomainLaws.{tracing-domain}
+use Rattle.volume_history.proofs.CallLaws.{traces-short, traces-answered}
 use Rattle.volume_history.proofs.path_chain.Statement.{statement}
 use Rattle.volume_history.proofs.path_chain.Tie as tie
 
+short-over-requires : tie.Need-short-over-requires
+short-over-requires c κs = search needs
+
 returns : tie.Need-returns
-returns c = traces-short _ _ _ _ _ (c .if1 .taken)
+returns c = traces-short _ _ _ _ _ (tracing-domain (now (c .before .before .before .before .before .before .before .args .journal)) (now (c .before .before .before .before .before .before .before .args .image)) _ _ _) (c .before .if1 .taken) (c .short-over .ensures)
 
 path-chain-requires : tie.Need-path-chain-requires
 path-chain-requires c κs = search needs
@@ -26,4 +31,11 @@ returns-2 c = traces-answered _ _ _ _ _ (c .before .before .before .before .befo
 pub path-chain-spec : {M : Type 1} → statement M
 path-chain-spec =
     tie.close
-    (tie.spec returns path-chain-requires put-chain-requires same-length same-length-2 returns-2)
+    (tie.spec
+    short-over-requires
+    returns
+    path-chain-requires
+    put-chain-requires
+    same-length
+    same-length-2
+    returns-2)

@@ -1,11 +1,16 @@
--- Too few words are refused first; otherwise decoding's equations say what goes out.
-use Rattle.usn_answers.proofs.AnswerLaws.{out-same, out-mapped, lists-short, lists-answered}
+-- Too few words are refused behind the domain; otherwise decoding's equations say what goes out.
+use denote.Ref.{now}
 use borrow.Author.Needs.{needs}
+use Rattle.walk.proofs.WordLaws.{out-same, out-mapped, lists-short, lists-answered}
+use Rattle.volume_history.proofs.DomainLaws.{place-domain}
 use Rattle.volume_history.proofs.path_decode.Statement.{statement}
 use Rattle.volume_history.proofs.path_decode.Tie as tie
 
+short-over-requires : tie.Need-short-over-requires
+short-over-requires c κs = search needs
+
 returns : tie.Need-returns
-returns c = lists-short _ _ 1 _ _ _ (c .if1 .taken)
+returns c = lists-short _ _ 1 _ _ _ (place-domain (now (c .before .before .before .before .before .before .args .journal)) (now (c .before .before .before .before .before .before .args .image)) _ _) (c .before .if1 .taken) (c .short-over .ensures)
 
 decode-requires : tie.Need-decode-requires
 decode-requires c κs = search needs
@@ -25,4 +30,11 @@ returns-2 c = lists-answered _ _ _ _ _ _ (c .before .before .before .before .bef
 pub path-decode-spec : {M : Type 1} → statement M
 path-decode-spec =
     tie.close
-    (tie.spec returns decode-requires put-length-requires same-length same-length-2 returns-2)
+    (tie.spec
+    short-over-requires
+    returns
+    decode-requires
+    put-length-requires
+    same-length
+    same-length-2
+    returns-2)

@@ -1,12 +1,17 @@
--- Too few words are refused first; otherwise the path's equations say what goes out.
-use Rattle.usn_answers.proofs.AnswerLaws.{out-same, out-mapped}
-use Rattle.volume_history.proofs.CallLaws.{tells-short, tells-answered}
+-- Too few words are refused behind the domain; otherwise the path's equations say what goes out.
+use denote.Ref.{now}
 use borrow.Author.Needs.{needs}
+use Rattle.walk.proofs.WordLaws.{out-same, out-mapped}
+use Rattle.volume_history.proofs.DomainLaws.{telling-domain}
+use Rattle.volume_history.proofs.CallLaws.{tells-short, tells-answered}
 use Rattle.volume_history.proofs.path_resolve.Statement.{statement}
 use Rattle.volume_history.proofs.path_resolve.Tie as tie
 
+short-over-requires : tie.Need-short-over-requires
+short-over-requires c κs = search needs
+
 returns : tie.Need-returns
-returns c = tells-short _ _ _ _ _ _ _ (c .if1 .taken)
+returns c = tells-short _ _ _ _ _ _ _ (telling-domain (now (c .before .before .before .before .before .before .before .before .args .journal)) (now (c .before .before .before .before .before .before .before .before .args .image)) _ _ _ _) (c .before .if1 .taken) (c .short-over .ensures)
 
 path-requires : tie.Need-path-requires
 path-requires c κs = search needs
@@ -30,6 +35,7 @@ pub path-resolve-spec : {M : Type 1} → statement M
 path-resolve-spec =
     tie.close
     (tie.spec
+    short-over-requires
     returns
     path-requires
     put-path-requires

@@ -1,11 +1,12 @@
--- Too few words are refused first; otherwise the equations of seeding say what goes out.
-use Rattle.volume_history.proofs.CallLaws.{seeds-short, seeds-answered}
+-- Too few words are refused first; otherwise seeding's equations say what goes out.
 use borrow.Author.Needs.{needs}
+use Rattle.volume_history.proofs.DomainLaws.{storing-domain}
+use Rattle.volume_history.proofs.CallLaws.{seeds-short, seeds-answered}
 use Rattle.volume_history.proofs.table_seed_indexed.Statement.{statement}
 use Rattle.volume_history.proofs.table_seed_indexed.Tie as tie
 
 returns : tie.Need-returns
-returns c = seeds-short _ _ _ _ _ (c .if1 .taken)
+returns c = seeds-short _ _ _ _ _ (storing-domain _ _ _) (c .if1 .taken)
 
 seed-indexed-requires : tie.Need-seed-indexed-requires
 seed-indexed-requires c κs = search needs

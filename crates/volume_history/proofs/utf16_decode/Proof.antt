@@ -1,11 +1,15 @@
--- Too few words are refused first; otherwise decoding's equations say what goes out.
+-- Too few words are refused behind the domain; otherwise decoding's equations say what goes out.
 use borrow.Author.Needs.{needs}
-use Rattle.usn_answers.proofs.AnswerLaws.{out-same, lists-short, lists-answered}
+use Rattle.walk.proofs.WordLaws.{out-same, lists-short, lists-answered}
+use Rattle.volume_history.proofs.DomainLaws.{name-domain}
 use Rattle.volume_history.proofs.utf16_decode.Statement.{statement}
 use Rattle.volume_history.proofs.utf16_decode.Tie as tie
 
+short-requires : tie.Need-short-requires
+short-requires c κs = search needs
+
 returns : tie.Need-returns
-returns c = lists-short _ _ 1 _ _ _ (c .if1 .taken)
+returns c = lists-short _ _ 1 _ _ _ (name-domain _ _) (c .before .if1 .taken) (c .short .ensures)
 
 decode-utf16-requires : tie.Need-decode-utf16-requires
 decode-utf16-requires c κs = search needs
@@ -26,6 +30,7 @@ pub utf16-decode-spec : {M : Type 1} → statement M
 utf16-decode-spec =
     tie.close
     (tie.spec
+    short-requires
     returns
     decode-utf16-requires
     put-length-requires

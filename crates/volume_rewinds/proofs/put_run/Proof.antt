@@ -1,5 +1,8 @@
 -- The run's words, or the refusal.
-use Rattle.volume_rewinds.proofs.CallLaws.{run-out}
+use mathlib.Core.Path.{ap}
+use Rattle.walk.proofs.WordLaws.{row-out}
+use Rattle.rewind_run.specs.Running.{runOutcome}
+use Rattle.volume_rewinds.specs.Run.{rowOf}
 use borrow.Author.Needs.{needs}
 use Rattle.volume_rewinds.proofs.put_run.Statement.{statement}
 use Rattle.volume_rewinds.proofs.put_run.Tie as tie
@@ -10,11 +13,11 @@ enum-known-answer c = search needs
 run-row-requires : tie.Need-run-row-requires
 run-row-requires c κs = search needs
 
-slice-aggregate-put-words : tie.Need-slice-aggregate-put-words
-slice-aggregate-put-words c = search needs
+slice-aggregate-put-row : tie.Need-slice-aggregate-put-row
+slice-aggregate-put-row c = search needs
 
-put-words-requires : tie.Need-put-words-requires
-put-words-requires c κs = search needs
+put-row-requires : tie.Need-put-row-requires
+put-row-requires c κs = search needs
 
 enum-known-answer-2 : tie.Need-enum-known-answer-2
 enum-known-answer-2 c = search needs
@@ -23,7 +26,7 @@ same-length : tie.Need-same-length
 same-length c = search needs
 
 returns : tie.Need-returns
-returns c = run-out _ _ (c .before .before .before .before .before .before .before .answer .given .1) (c .before .before .before .before .before .before .before .before .before .before .pre) (c .before .before .before .before .before .run-row .ensures) (c .before .before .put-words .ensures)
+returns c = row-out rowOf (ap runOutcome (c .before .before .before .before .before .before .before .answer .given .1)) (c .before .before .before .before .before .run-row .ensures) (c .before .before .put-row .ensures)
 
 returns-2 : tie.Need-returns-2
 returns-2 c = search needs
@@ -34,8 +37,8 @@ put-run-spec =
     (tie.spec
     enum-known-answer
     run-row-requires
-    slice-aggregate-put-words
-    put-words-requires
+    slice-aggregate-put-row
+    put-row-requires
     enum-known-answer-2
     same-length
     returns

@@ -1,11 +1,17 @@
--- Too few words are refused first; otherwise the step's equations say what goes out.
-use Rattle.volume_rewinds.proofs.StepLaws.{step-out, steps-told-short, steps-told-answered}
+-- Too few words are refused behind the domain; otherwise the step's equations say what goes out.
+use lib.ListN.{length}
+use denote.Ref.{now}
 use borrow.Author.Needs.{needs}
+use Rattle.volume_rewinds.proofs.StepLaws.{step-out, steps-told-short, steps-told-answered}
+use Rattle.volume_rewinds.proofs.DomainLaws.{told-domain}
 use Rattle.volume_rewinds.proofs.rewind_next.Statement.{statement}
 use Rattle.volume_rewinds.proofs.rewind_next.Tie as tie
 
+short-over-requires : tie.Need-short-over-requires
+short-over-requires c κs = search needs
+
 returns : tie.Need-returns
-returns c = steps-told-short _ _ _ _ _ _ _ _ (c .if1 .taken)
+returns c = let a = c .before .before .before .before .before .before .before .before .before .args in steps-told-short _ _ _ _ _ _ _ _ (told-domain (now (a .journal)) (now (a .image)) (now (a .records)) (now (a .forward)) (a .used) (a .position) (length (now (a .text)))) (c .before .if1 .taken) (c .short-over .ensures)
 
 rewind-next-requires : tie.Need-rewind-next-requires
 rewind-next-requires c κs = search needs
@@ -32,6 +38,7 @@ pub rewind-next-spec : {M : Type 1} → statement M
 rewind-next-spec =
     tie.close
     (tie.spec
+    short-over-requires
     returns
     rewind-next-requires
     put-path-step-requires

@@ -1,11 +1,16 @@
--- Too few words are refused first; otherwise the step's equations say what goes out.
-use Rattle.volume_rewinds.proofs.StepLaws.{step-out, steps-short, steps-answered}
+-- Too few words are refused behind the domain; otherwise the step's equations say what goes out.
+use denote.Ref.{now}
 use borrow.Author.Needs.{needs}
+use Rattle.volume_rewinds.proofs.StepLaws.{step-out, steps-short, steps-answered}
+use Rattle.volume_rewinds.proofs.DomainLaws.{step-domain}
 use Rattle.volume_rewinds.proofs.rewind_next_chain.Statement.{statement}
 use Rattle.volume_rewinds.proofs.rewind_next_chain.Tie as tie
 
+short-over-requires : tie.Need-short-over-requires
+short-over-requires c κs = search needs
+
 returns : tie.Need-returns
-returns c = steps-short _ _ _ _ _ _ (c .if1 .taken)
+returns c = let a = c .before .before .before .before .before .before .before .before .args in steps-short _ _ _ _ _ _ (step-domain (now (a .journal)) (now (a .image)) (now (a .records)) (now (a .forward)) (a .used) (a .position)) (c .before .if1 .taken) (c .short-over .ensures)
 
 rewind-next-chain-requires : tie.Need-rewind-next-chain-requires
 rewind-next-chain-requires c κs = search needs
@@ -29,6 +34,7 @@ pub rewind-next-chain-spec : {M : Type 1} → statement M
 rewind-next-chain-spec =
     tie.close
     (tie.spec
+    short-over-requires
     returns
     rewind-next-chain-requires
     put-chain-step-requires

@@ -4,11 +4,11 @@ use borrow.Author.Needs.{needs}
 use Rattle.volume_rewinds.proofs.rewind_run.Statement.{statement}
 use Rattle.volume_rewinds.proofs.rewind_run.Tie as tie
 
-short-number-requires : tie.Need-short-number-requires
-short-number-requires c κs = search needs
+short-over-requires : tie.Need-short-over-requires
+short-over-requires c κs = search needs
 
 returns : tie.Need-returns
-returns c = runs-short _ _ _ _ _ _ _ _ _ _ (c .before .if1 .taken) (c .short-number .ensures)
+returns c = runs-short _ _ _ _ _ _ _ _ _ _ (c .before .if1 .taken) (c .short-over .ensures)
 
 rewind-run-requires : tie.Need-rewind-run-requires
 rewind-run-requires c κs = search needs
@@ -41,7 +41,7 @@ pub rewind-run-spec : {M : Type 1} → statement M
 rewind-run-spec =
     tie.close
     (tie.spec
-    short-number-requires
+    short-over-requires
     returns
     rewind-run-requires
     put-run-requires

@@ -80,11 +80,9 @@ fn differs(words: &[u64], front: &[u64]) -> Option<(usize, u64)> {
 
 /// The scope's answer to an image with so many entries, its tests in their order.
 fn number(image: &[u8], entries: usize, lent: Lent) -> u32 {
-    if lent.out < OUT {
-        NO_ROOM
-    } else if image.len() > DOMAIN {
+    if image.len() > DOMAIN {
         ABOVE_DOMAIN
-    } else if entries > lent.list / ENTRY_WORDS {
+    } else if lent.out < OUT || entries > lent.list / ENTRY_WORDS {
         NO_ROOM
     } else {
         ACCEPTED

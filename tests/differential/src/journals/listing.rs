@@ -95,11 +95,9 @@ impl Answer {
 
 /// The scope's answer to an extract with so many records, its tests in their order.
 fn number(lister: &Lister, data: &[u8], records: usize, lent: Lent) -> u32 {
-    if lent.out < lister.fields.len() {
-        NO_ROOM
-    } else if data.len() > DOMAIN {
+    if data.len() > DOMAIN {
         ABOVE_DOMAIN
-    } else if records > lent.list / 2 {
+    } else if lent.out < lister.fields.len() || records > lent.list / 2 {
         NO_ROOM
     } else {
         ACCEPTED

@@ -79,10 +79,10 @@ pub fn text(bytes: &[u8]) -> String {
 
 /// The scope's answer to bytes with a text of this length, its tests in their order.
 fn number(bytes: &[u8], text: usize, room: Room) -> u32 {
-    if room.out < OUT {
-        NO_ROOM
-    } else if bytes.len() > DOMAIN {
+    if bytes.len() > DOMAIN {
         ABOVE_DOMAIN
+    } else if room.out < OUT {
+        NO_ROOM
     } else if text > room.text {
         TEXT_TOO_SMALL
     } else {

@@ -12,7 +12,7 @@ use crate::carve::CarvedMftEntry;
 use crate::declared::{self, Place};
 use crate::difference::Finding;
 use crate::lent::{beginning, untouched, BEHIND};
-use crate::library::{ACCEPTED, ENTRY_WORDS, NO_ROOM, TEXT_TOO_SMALL};
+use crate::library::{ABOVE_DOMAIN, ACCEPTED, ENTRY_WORDS, NO_ROOM, TEXT_TOO_SMALL};
 use crate::names::comparison::text;
 use crate::rewind::{EntryInfo, EntryKey, RewindEngine};
 use std::collections::HashSet;
@@ -302,6 +302,7 @@ impl<'a> Pair<'a> {
             &mut lists.out[..room.out],
         );
         let expected = match &question.told {
+            Err(ABOVE_DOMAIN) => Err(ABOVE_DOMAIN),
             _ if room.out < TOLD => Err(NO_ROOM),
             Err(refusal) => Err(*refusal),
             Ok(told) if told.text.len() > room.text => Err(TEXT_TOO_SMALL),
@@ -328,6 +329,7 @@ impl<'a> Pair<'a> {
             &mut lists.out[..room.out],
         );
         let expected = match &question.told {
+            Err(ABOVE_DOMAIN) => Err(ABOVE_DOMAIN),
             _ if room.out < CHAIN_WORDS => Err(NO_ROOM),
             Err(refusal) => Err(*refusal),
             Ok(told) => Ok(Written {

@@ -9,11 +9,11 @@ use crate::names::comparison::{hex, text, untouched_byte, Room, OUT};
 
 /// The scope's answer, its tests in their order: the text, or a refusal.
 fn decoded(names: Sources, place: Place, room: Room) -> Result<String, u32> {
-    if room.out < OUT {
-        return Err(NO_ROOM);
-    }
     if above_domain(names) {
         return Err(ABOVE_DOMAIN);
+    }
+    if room.out < OUT {
+        return Err(NO_ROOM);
     }
     let text = text(bytes_at(names, place).ok_or(NAME_OUTSIDE)?);
     if text.len() > room.text {

@@ -127,7 +127,8 @@ pub fn compare_parser(parser: &Parser, data: &[u8], lent: usize) -> Result<(), F
     let what = match (refusal(parser.layout, data), &rust) {
         // The Rust has no such refusal, so that its answer says nothing here.
         (ABOVE_DOMAIN, _) => ours.against_refusal(ABOVE_DOMAIN),
-        (ACCEPTED, Ok(_)) if lent < WORDS => ours.against_refusal(NO_ROOM),
+        // Nor has it one for too few words.
+        _ if lent < WORDS => ours.against_refusal(NO_ROOM),
         (ACCEPTED, Ok(record)) => ours.against_record(record, parser.layout, data),
         (ACCEPTED, Err(_)) => Some("the scope accepts what the Rust refuses".to_string()),
         (expected, Ok(_)) => Some(format!("the scope refuses with {expected} what the Rust accepts")),
@@ -143,8 +144,8 @@ pub fn compare_listed(data: &[u8], offset: usize, lent: usize) -> Result<(), Fin
     let rust = listed_by_rust(data, offset);
     let ours = Answer::of(lent, |words| library::usn_listed_record(data, offset, words));
     let what = match &rust {
+        _ if lent < WORDS => ours.against_refusal(NO_ROOM),
         Err(_) => ours.against_refusal(NOT_LISTED),
-        Ok(_) if lent < WORDS => ours.against_refusal(NO_ROOM),
         Ok((parser, part, record)) => ours.against_record(record, parser.layout, part),
     };
     let rust = rust.as_ref().map(|(_, _, record)| record);
@@ -190,7 +191,7 @@ fn finding<E: std::fmt::Display>(
     })
 }
 
-/// The scope's answer to a parser's slice, its tests in their order, before any room for words is asked for.
+/// The scope's answer to a parser's slice, its tests in their order; it has none of the words that are lent.
 fn refusal(layout: &Layout, data: &[u8]) -> u32 {
     if data.len() > DOMAIN {
         return ABOVE_DOMAIN;

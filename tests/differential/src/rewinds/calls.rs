@@ -8,11 +8,11 @@ use super::library::{
 use super::model::{Listed, Next, Step};
 use crate::difference::Finding;
 use crate::lent::{beginning, untouched, BEHIND};
-use crate::library::{ACCEPTED, NO_ROOM, TEXT_TOO_SMALL};
+use crate::library::{ABOVE_DOMAIN, ACCEPTED, NO_ROOM, TEXT_TOO_SMALL};
 use crate::paths::index::{sizes, Index};
 use crate::paths::library::{SLOT_FIELDS, SLOT_WORDS};
 use crate::paths::lists::{word_against, Lists, Room, Written};
-use crate::paths::model::Table;
+use crate::paths::model::{above_domain, Table};
 use crate::paths::pair::against;
 
 /// A table as the scope has it, and our words, those lent and those behind them.
@@ -99,6 +99,7 @@ pub fn start(
     out: usize,
 ) -> Result<Result<State, u32>, Finding> {
     let expected = match out < START_WORDS {
+        true if above_domain(listed.names) => Err(ABOVE_DOMAIN),
         true => Err(NO_ROOM),
         false => listed.start(&mut first.model, used, &mut forward.model),
     };
@@ -183,6 +184,7 @@ pub fn next(
     room: Room,
 ) -> Result<Result<Next, u32>, Finding> {
     let expected = match listed.next(&forward.model, state) {
+        Err(ABOVE_DOMAIN) => Err(ABOVE_DOMAIN),
         _ if room.out < told.words() => Err(NO_ROOM),
         Ok(Next::Record(step)) if told == Told::Path && step.text.len() > room.text => Err(TEXT_TOO_SMALL),
         other => other,

@@ -3,7 +3,9 @@
 
 use super::model::{Answer, Model};
 use crate::difference::Finding;
-use crate::library::{self, ACCEPTED, ANSWER_WORDS, BUF_SIZE, FIELDS, NAME, NO_ROOM, READER_FIELDS, READER_WORDS};
+use crate::library::{
+    self, ABOVE_DOMAIN, ACCEPTED, ANSWER_WORDS, BUF_SIZE, FIELDS, NAME, NO_ROOM, READER_FIELDS, READER_WORDS,
+};
 use crate::library::{RECORD, TOO_MANY_BYTES};
 use crate::records::answers::{against_text, against_words, listed_by_rust, named, words_of};
 use crate::records::layout::Layout;
@@ -140,11 +142,14 @@ impl Pair {
         Ok(answered)
     }
 
+    /// The scope's refusals in their order: too few words of a window come before them, and too few for the answer
+    /// directly behind 1.
     fn refusal(&self, lent: Lent) -> u32 {
-        if lent.reader < READER_WORDS || lent.out < ANSWER_WORDS {
-            NO_ROOM
-        } else {
-            self.model.refusal(lent.buffer)
+        match self.model.refusal(lent.buffer) {
+            _ if lent.reader < READER_WORDS => NO_ROOM,
+            ABOVE_DOMAIN => ABOVE_DOMAIN,
+            _ if lent.out < ANSWER_WORDS => NO_ROOM,
+            refusal => refusal,
         }
     }
 

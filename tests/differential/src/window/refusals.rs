@@ -22,7 +22,7 @@ const TOTALS: [u64; 10] = [
 ];
 
 /// Lengths other than a call asks for, the longer ones among them accepted for words and refused for the buffer.
-const OTHER: [Lent; 9] = [
+const OTHER: [Lent; 11] = [
     Lent { reader: 0, ..FULL },
     Lent {
         reader: READER_WORDS - 1,
@@ -37,6 +37,16 @@ const OTHER: [Lent; 9] = [
     Lent { out: 3, ..FULL },
     Lent {
         out: ANSWER_WORDS - 1,
+        ..FULL
+    },
+    Lent {
+        out: ANSWER_WORDS - 1,
+        buffer: 0,
+        ..FULL
+    },
+    Lent {
+        reader: READER_WORDS - 1,
+        out: 0,
         ..FULL
     },
     Lent { buffer: 0, ..FULL },

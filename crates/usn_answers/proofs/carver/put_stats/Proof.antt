@@ -1,6 +1,9 @@
 -- The counters' words, or the refusal.
 use borrow.Author.Needs.{needs}
-use Rattle.usn_answers.proofs.CarverLaws.{stats-answered}
+use mathlib.Core.Path.{ap}
+use Rattle.walk.proofs.WordLaws.{row-out}
+use Rattle.usn_carver.specs.Carve.{outcome}
+use Rattle.usn_carver.specs.Events.{statsWords}
 use Rattle.usn_answers.proofs.carver.put_stats.Statement.{statement}
 use Rattle.usn_answers.proofs.carver.put_stats.Tie as tie
 
@@ -10,11 +13,11 @@ enum-known-carving c = search needs
 stats-row-requires : tie.Need-stats-row-requires
 stats-row-requires c κs = search needs
 
-slice-aggregate-put-words : tie.Need-slice-aggregate-put-words
-slice-aggregate-put-words c = search needs
+slice-aggregate-put-row : tie.Need-slice-aggregate-put-row
+slice-aggregate-put-row c = search needs
 
-put-words-requires : tie.Need-put-words-requires
-put-words-requires c κs = search needs
+put-row-requires : tie.Need-put-row-requires
+put-row-requires c κs = search needs
 
 enum-known-carving-2 : tie.Need-enum-known-carving-2
 enum-known-carving-2 c = search needs
@@ -23,7 +26,7 @@ same-length : tie.Need-same-length
 same-length c = search needs
 
 returns : tie.Need-returns
-returns c = stats-answered _ _ (c .before .before .before .before .before .before .before .carving .given .1) (c .before .before .before .before .before .before .before .before .before .before .pre) (c .before .before .before .before .before .stats-row .ensures) (c .before .before .put-words .ensures)
+returns c = row-out statsWords (ap outcome (c .before .before .before .before .before .before .before .carving .given .1)) (c .before .before .before .before .before .stats-row .ensures) (c .before .before .put-row .ensures)
 
 returns-2 : tie.Need-returns-2
 returns-2 c = search needs
@@ -34,8 +37,8 @@ put-stats-spec =
     (tie.spec
     enum-known-carving
     stats-row-requires
-    slice-aggregate-put-words
-    put-words-requires
+    slice-aggregate-put-row
+    put-row-requires
     enum-known-carving-2
     same-length
     returns

@@ -1,5 +1,5 @@
 -- Each end by its case.
-use Rattle.volume_answers.proofs.AnswerLaws.{end-root, end-unknown, end-unresolved}
+use Rattle.volume_answers.proofs.PathLaws.{end-root, end-unknown, end-unresolved}
 use borrow.Author.Needs.{needs}
 use Rattle.volume_answers.proofs.paths.end_numbers.Statement.{statement}
 use Rattle.volume_answers.proofs.paths.end_numbers.Tie as tie

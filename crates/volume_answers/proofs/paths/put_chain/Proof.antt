@@ -1,6 +1,9 @@
 -- The path's words, or the refusal.
-use Rattle.volume_answers.proofs.AnswerLaws.{chain-answered}
 use borrow.Author.Needs.{needs}
+use mathlib.Core.Path.{ap}
+use Rattle.walk.proofs.WordLaws.{row-out}
+use Rattle.chain.specs.Tracing.{outcome}
+use Rattle.volume_answers.specs.Path.{resolvedWords}
 use Rattle.volume_answers.proofs.paths.put_chain.Statement.{statement}
 use Rattle.volume_answers.proofs.paths.put_chain.Tie as tie
 
@@ -10,11 +13,11 @@ enum-known-answer c = search needs
 resolved-row-requires : tie.Need-resolved-row-requires
 resolved-row-requires c κs = search needs
 
-slice-aggregate-put-words : tie.Need-slice-aggregate-put-words
-slice-aggregate-put-words c = search needs
+slice-aggregate-put-row : tie.Need-slice-aggregate-put-row
+slice-aggregate-put-row c = search needs
 
-put-words-requires : tie.Need-put-words-requires
-put-words-requires c κs = search needs
+put-row-requires : tie.Need-put-row-requires
+put-row-requires c κs = search needs
 
 enum-known-answer-2 : tie.Need-enum-known-answer-2
 enum-known-answer-2 c = search needs
@@ -23,7 +26,7 @@ same-length : tie.Need-same-length
 same-length c = search needs
 
 returns : tie.Need-returns
-returns c = chain-answered _ _ (c .before .before .before .before .before .before .before .answer .given .1) (c .before .before .before .before .before .before .before .before .before .before .pre) (c .before .before .before .before .before .resolved-row .ensures) (c .before .before .put-words .ensures)
+returns c = row-out resolvedWords (ap outcome (c .before .before .before .before .before .before .before .answer .given .1)) (c .before .before .before .before .before .resolved-row .ensures) (c .before .before .put-row .ensures)
 
 returns-2 : tie.Need-returns-2
 returns-2 c = search needs
@@ -34,8 +37,8 @@ put-chain-spec =
     (tie.spec
     enum-known-answer
     resolved-row-requires
-    slice-aggregate-put-words
-    put-words-requires
+    slice-aggregate-put-row
+    put-row-requires
     enum-known-answer-2
     same-length
     returns

@@ -1,6 +1,9 @@
 -- The path's words, or the refusal.
-use Rattle.volume_answers.proofs.AnswerLaws.{path-answered}
 use borrow.Author.Needs.{needs}
+use mathlib.Core.Path.{ap}
+use Rattle.walk.proofs.WordLaws.{row-out}
+use Rattle.path.specs.Written.{outcome}
+use Rattle.volume_answers.specs.Path.{writtenWords}
 use Rattle.volume_answers.proofs.paths.put_path.Statement.{statement}
 use Rattle.volume_answers.proofs.paths.put_path.Tie as tie
 
@@ -10,11 +13,11 @@ enum-known-answer c = search needs
 told-row-requires : tie.Need-told-row-requires
 told-row-requires c κs = search needs
 
-slice-aggregate-put-words : tie.Need-slice-aggregate-put-words
-slice-aggregate-put-words c = search needs
+slice-aggregate-put-row : tie.Need-slice-aggregate-put-row
+slice-aggregate-put-row c = search needs
 
-put-words-requires : tie.Need-put-words-requires
-put-words-requires c κs = search needs
+put-row-requires : tie.Need-put-row-requires
+put-row-requires c κs = search needs
 
 enum-known-answer-2 : tie.Need-enum-known-answer-2
 enum-known-answer-2 c = search needs
@@ -23,7 +26,7 @@ same-length : tie.Need-same-length
 same-length c = search needs
 
 returns : tie.Need-returns
-returns c = path-answered _ _ (c .before .before .before .before .before .before .before .answer .given .1) (c .before .before .before .before .before .before .before .before .before .before .pre) (c .before .before .before .before .before .told-row .ensures) (c .before .before .put-words .ensures)
+returns c = row-out writtenWords (ap outcome (c .before .before .before .before .before .before .before .answer .given .1)) (c .before .before .before .before .before .told-row .ensures) (c .before .before .put-row .ensures)
 
 returns-2 : tie.Need-returns-2
 returns-2 c = search needs
@@ -34,8 +37,8 @@ put-path-spec =
     (tie.spec
     enum-known-answer
     told-row-requires
-    slice-aggregate-put-words
-    put-words-requires
+    slice-aggregate-put-row
+    put-row-requires
     enum-known-answer-2
     same-length
     returns

@@ -1,5 +1,5 @@
 -- The end's numbers stand in the row.
-use Rattle.volume_answers.proofs.AnswerLaws.{resolved-made}
+use Rattle.volume_answers.proofs.PathLaws.{resolved-made}
 use borrow.Author.Needs.{needs}
 use Rattle.volume_answers.proofs.paths.resolved_row.Statement.{statement}
 use Rattle.volume_answers.proofs.paths.resolved_row.Tie as tie

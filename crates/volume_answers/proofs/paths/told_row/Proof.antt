@@ -1,5 +1,5 @@
 -- The end's numbers stand in the row.
-use Rattle.volume_answers.proofs.AnswerLaws.{told-made}
+use Rattle.volume_answers.proofs.PathLaws.{told-made}
 use borrow.Author.Needs.{needs}
 use Rattle.volume_answers.proofs.paths.told_row.Statement.{statement}
 use Rattle.volume_answers.proofs.paths.told_row.Tie as tie

@@ -1,6 +1,9 @@
 -- The state's words, or the refusal.
-use Rattle.volume_answers.proofs.RewindLaws.{start-answered}
 use borrow.Author.Needs.{needs}
+use mathlib.Core.Path.{ap}
+use Rattle.walk.proofs.WordLaws.{row-out}
+use Rattle.rewind.specs.Starting.{startOutcome}
+use Rattle.volume_answers.specs.Rewind.{rewindWords}
 use Rattle.volume_answers.proofs.rewinds.put_start.Statement.{statement}
 use Rattle.volume_answers.proofs.rewinds.put_start.Tie as tie
 
@@ -10,11 +13,11 @@ enum-known-started c = search needs
 rewind-row-requires : tie.Need-rewind-row-requires
 rewind-row-requires c κs = search needs
 
-slice-aggregate-put-words : tie.Need-slice-aggregate-put-words
-slice-aggregate-put-words c = search needs
+slice-aggregate-put-row : tie.Need-slice-aggregate-put-row
+slice-aggregate-put-row c = search needs
 
-put-words-requires : tie.Need-put-words-requires
-put-words-requires c κs = search needs
+put-row-requires : tie.Need-put-row-requires
+put-row-requires c κs = search needs
 
 enum-known-started-2 : tie.Need-enum-known-started-2
 enum-known-started-2 c = search needs
@@ -23,7 +26,7 @@ same-length : tie.Need-same-length
 same-length c = search needs
 
 returns : tie.Need-returns
-returns c = start-answered _ _ (c .before .before .before .before .before .before .before .started .given .1) (c .before .before .before .before .before .before .before .before .before .before .pre) (c .before .before .before .before .before .rewind-row .ensures) (c .before .before .put-words .ensures)
+returns c = row-out rewindWords (ap startOutcome (c .before .before .before .before .before .before .before .started .given .1)) (c .before .before .before .before .before .rewind-row .ensures) (c .before .before .put-row .ensures)
 
 returns-2 : tie.Need-returns-2
 returns-2 c = search needs
@@ -34,8 +37,8 @@ put-start-spec =
     (tie.spec
     enum-known-started
     rewind-row-requires
-    slice-aggregate-put-words
-    put-words-requires
+    slice-aggregate-put-row
+    put-row-requires
     enum-known-started-2
     same-length
     returns
