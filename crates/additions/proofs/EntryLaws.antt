@@ -36,12 +36,12 @@ pub name-moved : (o : ℕ) (p : Place) → eqb (p .length) 0 ≡ false
 name-moved o p e = rw e
 
 -- an entry is known where a record is listed
-told : {A B : Type 0} (f : A → B) (x : Outcome A) → isAnswered x ≡ isAnswered (mapOutcome f x)
-told f (refused n) = refl
-told f (answered a) = refl
+answered-mapped : {A B : Type 0} (f : A → B) (x : Outcome A) → isAnswered x ≡ isAnswered (mapOutcome f x)
+answered-mapped f (refused n) = refl
+answered-mapped f (answered a) = refl
 
 pub record-told : (s : List ℕ) (o : ℕ) {r : Bool} → r ≡ isAnswered (listed s o) → r ≡ isAnswered (entryAt s o)
-record-told s o e = e ∙ told (entryFrom o) (listed s o)
+record-told s o e = e ∙ answered-mapped (entryFrom o) (listed s o)
 
 module _ (s : List ℕ) (o : ℕ) {p : Parsed} (e : outcome p ≡ listed s o) where
   module _ {m : ℕ} (g : p ≡ Refused m) where

@@ -61,7 +61,7 @@ unknown-looking t keys k i h = go (find t k) refl
 -- The keys of the entries before i are counted, n of them different and new, and that of entry i is in none of the first j, nor in the table where it was asked.
 pub record Compared (t : Table) (f : ℕ → Addition) (count i j n : ℕ) : Type 0 where
   pub fits : t .used ≤ slotsIn (t .words)
-  pub behind : j ≤ i
+  pub back : j ≤ i
   pub counted : Counting t f count n i
   pub looking : 0 < j → Looking t (keysAt f) (keysAt f i) j i
 
@@ -84,7 +84,7 @@ module _ (s : List ℕ) (f : ℕ → Addition) (count : ℕ) where
       let g : u ≤ slotsIn s = ltb-false _ _ x in
       cond-cases (Counts (answered u) s f count) (leb count (slotsIn s - u))
       (λ y. past refl (rw (x, le-ltb (slotsIn s - u) 0 (omega arith), ← room-for-all (table s u) f count (slotsIn s) g (leb-true _ _ y))))
-      (λ y. within 0 0 0 u refl refl (record { fits = g; behind = omega arith; counted = counting-start (table s u) f count; looking = λ l. absurd (omega arith) })))
+      (λ y. within 0 0 0 u refl refl (record { fits = g; back = omega arith; counted = counting-start (table s u) f count; looking = λ l. absurd (omega arith) })))
 
   -- what a turn asks
   pub counts-asks : {o : Outcome ℕ} {p : Pair} {used : ℕ} → Counts o s f count p → p .i < count → used ≡ usedIn o
@@ -92,7 +92,7 @@ module _ (s : List ℕ) (f : ℕ → Addition) (count : ℕ) where
   counts-asks (past e q) l h = let m : count < count = rw e at l in absurd (omega arith)
   counts-asks (within i j n u e q w) l h =
       let m : i < count = rw e at l in
-      rw (h, q, e) (w .fits, (omega (arith, w .behind), w .counted .few))
+      rw (h, q, e) (w .fits, (omega (arith, w .back), w .counted .few))
 
   module _ (e d : CarvedMftEntry) where
     -- a turn within counting
@@ -108,7 +108,7 @@ module _ (s : List ℕ) (f : ℕ → Addition) (count : ℕ) where
 
       on : {m : ℕ} → Counting t f count m (i + 1) → Near (pair (i + 1) 0 m)
       on {m} k = (
-        within (i + 1) 0 m u refl eo (record { fits = w .fits; behind = omega arith; counted = k; looking = λ l. absurd (omega arith) }),
+        within (i + 1) 0 m u refl eo (record { fits = w .fits; back = omega arith; counted = k; looking = λ l. absurd (omega arith) }),
         ahead-on count i j n m h,
       )
 
@@ -147,7 +147,7 @@ module _ (s : List ℕ) (f : ℕ → Addition) (count : ℕ) where
           (λ z. on (counting-known (w .counted) h key (looking-found look before (ap (λ (a : Addition). a .key) ed) refl z) refl refl))
           (λ z.
           let next : Looking t (keysAt f) (additionOf e .key) (j + 1) i = looking-next look before (ap (λ (a : Addition). a .key) ed) refl z in (
-            within i (j + 1) n u refl eo (record { fits = w .fits; behind = omega arith; counted = w .counted; looking = λ _. rw (← key) next }),
+            within i (j + 1) n u refl eo (record { fits = w .fits; back = omega arith; counted = w .counted; looking = λ _. rw (← key) next }),
             ahead-step count i j n n (omega arith),
           ))))
 

@@ -213,7 +213,7 @@ pub risen : (t : Table) (k : EntryKey) (way : List ℕ) {r : ℕ} {way′ : List
     → {end : ChainEnd} → end ≡ endBy (t .words) way′ r k → Climbs t k (record { names = r; bound = getD way′ (length way′ - 1) 0; end = end }) way′
 risen t k way {r} {way′} g same {end} e =
     record {
-      told = λ i. record { places = places-are i; end = (e ∙ g .ends) i };
+      chain-is = λ i. record { places = places-are i; end = (e ∙ g .ends) i };
       bounds = rw same (g .bounds) ∙ zero-add (namesBound (chain t levels k .places)) ∙ ap namesBound (sym places-are);
       below = risen-below t k way g;
     }
@@ -223,13 +223,13 @@ risen t k way {r} {way′} g same {end} e =
 
 module _ (t : Table) (k : EntryKey) {r : Climbed} {way′ : List ℕ} (g : Climbs t k r way′) where
   pub climbed-places : wayPlaces (t .words) way′ (r .names) ≡ chainOf t depth k .places
-  climbed-places = ap (λ (c : Chain). c .places) (g .told)
+  climbed-places = ap (λ (c : Chain). c .places) (g .chain-is)
 
   pub climbed-names : r .names ≡ length (chainOf t depth k .places)
   climbed-names = sym (places-count (t .words) way′ (r .names)) ∙ ap length climbed-places
 
   pub climbed-resolved : resolvedBy r ≡ resolved (chainOf t depth k)
-  climbed-resolved = λ i. record { names = climbed-names i; end = ap (λ (c : Chain). c .end) (g .told) i }
+  climbed-resolved = λ i. record { names = climbed-names i; end = ap (λ (c : Chain). c .end) (g .chain-is) i }
 
   pub climbed-slots : t .used * stride ≤ length (t .words) → Slots (t .words) way′ (r .names)
   climbed-slots fits = below-slots fits (g .below)

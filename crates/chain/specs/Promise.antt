@@ -46,7 +46,7 @@ RisePromise slots used key levels way bound r = Rises (table (before slots) used
 
 -- the whole way of a key that is asked for: its chain, the most that its names take, and that its slots are used ones
 pub record Climbs (t : Table) (k : EntryKey) (r : Climbed) (way′ : List ℕ) : Type 0 where
-  pub told : chainBy (t .words) way′ r ≡ chainOf t depth k
+  pub chain-is : chainBy (t .words) way′ r ≡ chainOf t depth k
   pub bounds : r .bound ≡ namesBound (wayPlaces (t .words) way′ (r .names))
   pub below : Below (t .used) way′ (r .names)
 

@@ -112,7 +112,7 @@ pub record Walking (m : ℕ) (t : Table) (k : EntryKey) (link last : ℕ) : Type
   pub within : link ≤ t .used
   pub same : (i : ℕ) → link ≡ suc i → hashAt m (t .words) i ≡ hash m k
   pub rest : find t k ≡ fromLink (t .words) (t .used) k link
-  pub behind : LinkOf m t (hash m k) last
+  pub last-links : LinkOf m t (hash m k) last
   pub follows : link ≡ following m t (hash m k) last
 
 module _ {m : ℕ} {t : Table} {heads nexts : List ℕ} (x : Links m t heads nexts) (k : EntryKey) where
@@ -129,7 +129,7 @@ module _ {m : ℕ} {t : Table} {heads nexts : List ℕ} (x : Links m t heads nex
         within = l .within;
         same = l .same;
         rest = jump m (t .words) (t .used) k (t .used) 0 (omega arith);
-        behind = tt;
+        last-links = tt;
         follows = refl;
       }
 
@@ -156,7 +156,7 @@ module _ {m : ℕ} {t : Table} {heads nexts : List ℕ} (x : Links m t heads nex
           rest =
               w .rest ∙ turn-on m (t .words) (t .used) k link some (w .within) (ap (λ (q : EntryKey). sameKey q k) (sym e) ∙ sym c ∙ y)
               ∙ ap (fromLink (t .words) (t .used) k) (sym next);
-          behind = subst (LinkOf m t (hash m k)) (sym a) (omega (arith, w .within), here);
+          last-links = subst (LinkOf m t (hash m k)) (sym a) (omega (arith, w .within), here);
           follows = next ∙ sym (ap (following m t (hash m k)) a);
         }
 
@@ -168,7 +168,7 @@ pub walking-last : {m : ℕ} {t : Table} {k : EntryKey} {link last : ℕ} → Wa
 unfolding Probed fromLink
 walking-last {m} {t} {k} {link} {last} w h =
     let z : link ≡ 0 = omega arith in
-    (w .rest ∙ ap (fromLink (t .words) (t .used) k) z, λ _. record { is = w .behind; none = sym (w .follows) ∙ z })
+    (w .rest ∙ ap (fromLink (t .words) (t .used) k) z, λ _. record { is = w .last-links; none = sym (w .follows) ∙ z })
 
 -- what a walk said
 module _ (m : ℕ) (t : Table) (k : EntryKey) {p : Probe} (x : Probed m t k p) where

@@ -14,7 +14,7 @@ use Rattle.mft_carver.specs.declared.MftCarvingStats.{MftCarvingStats}
 
 module _ (st : Settings) (s l : List ℕ) where
   kept : {n : ℕ} → refused n ≡ carving st s (length l) → Carves st s l (Refused n) l
-  kept e = record { answer = e; listed = rw (← e) }
+  kept e = record { answer = e; list-is = rw (← e) }
 
   pub refuses-above-domain : domain < length s → Carves st s l (Refused aboveDomain) l
   unfolding carving
@@ -31,7 +31,7 @@ module _ (st : Settings) (s l : List ℕ) where
 
     -- x and l′ are what the loop that fills the list answers and leaves
     pub carves : length (entriesIn st s) ≤ length l / stride → {x : MftCarvingStats} {l′ : List ℕ} → Fills st s l x l′ → Carves st s l (Carved x) l′
-    carves h f = let e = answers h (f .counters) in record { answer = e; listed = rw (← e) (f .listed) }
+    carves h f = let e = answers h (f .counters) in record { answer = e; list-is = rw (← e) (f .list-is) }
 
 -- runs with the same events come out the same
 pub outcome-agrees : (st : Settings) (s t : List ℕ) (words : ℕ) → length t ≡ length s → events st t ≡ events st s → carving st t words ≡ carving st s words

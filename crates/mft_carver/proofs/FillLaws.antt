@@ -145,4 +145,4 @@ module _ {st : Settings} {s l₀ l : List ℕ} {x : MftCarvingStats} {o : ℕ} (
         (omega (arith, f .refusals, ap rejections w))
 
     pub filling-end : length (entriesIn st s) ≤ length l₀ / stride → Fills st s l₀ x l
-    filling-end h = record { counters = counters; listed = writing-end entryWords stride (λ _. refl) (f .written) (ap entries w) h }
+    filling-end h = record { counters = counters; list-is = writing-end entryWords stride (λ _. refl) (f .written) (ap entries w) h }

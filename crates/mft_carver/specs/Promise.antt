@@ -14,7 +14,7 @@ use Rattle.mft_carver.specs.declared.MftCarvingStats.{MftCarvingStats}
 -- carving: its answer, and the list of the entries
 pub record Carves (st : Settings) (image list : List ℕ) (r : MftCarving) (list′ : List ℕ) : Type 0 where
   pub answer : outcome r ≡ carving st image (length list)
-  pub listed : list′ ≡ carvingList st image list
+  pub list-is : list′ ≡ carvingList st image list
 
 abbrev pub CarvePromise : Settings → Lent → Lent → MftCarving → Type 0
 CarvePromise st image list r = Carves st (before image) (before list) r (after list)
@@ -28,7 +28,7 @@ pub record FillAsks (st : Settings) (image list : List ℕ) : Type 0 where
 -- what it leaves: the counters of the run, and the list
 pub record Fills (st : Settings) (image list : List ℕ) (r : MftCarvingStats) (list′ : List ℕ) : Type 0 where
   pub counters : r ≡ statsIn st image
-  pub listed : list′ ≡ overwrite list (flatten entryWords (entriesIn st image))
+  pub list-is : list′ ≡ overwrite list (flatten entryWords (entriesIn st image))
 
 abbrev pub FillPromise : Settings → Lent → Lent → MftCarvingStats → Type 0
 FillPromise st image list r = Fills st (before image) (before list) r (after list)

@@ -149,7 +149,7 @@ module _ (journal image records : List ℕ) (room asked : ℕ) where
           (λ w. inr (inr (inl (record { says = w .why .number; steps = omega (arith, e); ahead = w .near; fresh = w .why .fresh; full = w .why .full }))))
           (λ w. inr (inr (inr (record { says = w .number; steps = omega (arith, e); step = w .step; takes = w .takes; long = w .long }))))
           (step-refused journal image records (r .words) (r .rewind .used) (r .rewind .position) p (room - length (r .text)) g)
-      go (answered ended) g more = inr (inl (record { says = s; steps = omega (arith, e); behind = step-ended journal image records (r .words) (r .rewind .used) (r .rewind .position) p (room - length (r .text)) g }))
+      go (answered ended) g more = inr (inl (record { says = s; steps = omega (arith, e); none-left = step-ended journal image records (r .words) (r .rewind .used) (r .rewind .position) p (room - length (r .text)) g }))
       go (answered (next x)) g more =
           let made = made-step journal image records (r .words) (r .rewind .used) (r .rewind .position) p (room - length (r .text)) g in
           let f = length-append (r .ends) (length (r .text ++ recordText journal image x) ∷ []) in

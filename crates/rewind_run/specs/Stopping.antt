@@ -32,7 +32,7 @@ module _ (journal image records : List ℕ) (room asked : ℕ) (r : Run) where
   pub record NoRecord : Type 0 where
     pub says : r .stopped ≡ 0
     pub steps : length (r .ends) < asked
-    pub behind : recordsIn records ≤ r .rewind .position
+    pub none-left : recordsIn records ≤ r .rewind .position
 
   -- 6: the key of the record that is next is new, and no slot is left
   pub record NoSlot : Type 0 where

@@ -72,7 +72,7 @@ module _ (journal image : List ℕ) (u : Table) (parent : EntryKey) (name : Name
 
   module _ (m : ℕ) (nexts : List ℕ) (t : Table) {v : Behind} {y : List ℕ} (told : Behinds (entryText journal image (chainBy (u .words) way′ p) name) text at v y) where
     g : Behinds more text at v y
-    g = rw (up .told) at told
+    g = rw (up .chain-is) at told
 
     abbrev Tells : Made → List ℕ → List ℕ → List ℕ → List ℕ → List ℕ → Type 0
     Tells = StepLeaves journal image at m nexts text (stepWithText journal image u parent name (length text - at)) t

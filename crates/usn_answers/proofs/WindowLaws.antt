@@ -43,7 +43,7 @@ module _ (x : Reading) {l o : List ℕ} where
   -- the window's words are written, and the answer's are a row
   module _ {l′ o′ : List ℕ} {r n : ℕ} (w : Answers readerWords (answered (x .reader)) l r l′) where
     told : readingOutcome x ≡ answered x → {row : List ℕ} → answerWords (x .answer) ≡ row → Row row o n o′ → Told (readingOutcome x) l o r l′ o′
-    told q e g = rw q (record { answer = w .answer; listed = w .row; row = rw e (g .row) })
+    told q e g = rw q (record { answer = w .answer; list-is = w .row; row = rw e (g .row) })
 
     pub reading-end : x .answer ≡ End → Row (0 ∷ 0 ∷ 0 ∷ []) o n o′ → Told (readingOutcome x) l o r l′ o′
     unfolding answerWords

@@ -9,7 +9,7 @@ use lib.Dec.{ltb, eqb}
 use Rattle.walk.specs.Outcome.{Outcome, refused, answered}
 use Rattle.walk.specs.Refusals.{listFull}
 use Rattle.walk.specs.Words.{shortBy, unlessRefused, Answers}
-use Rattle.walk.proofs.WordLaws.{refused-out, out-same, room-few, room-enough, Domain, door-short, door-open}
+use Rattle.walk.proofs.WordLaws.{refused-out, out-same, room-few, room-enough, Domain, domain-short, domain-enough}
 use Rattle.window_numbers.specs.Numbers.{streamDomain}
 use Rattle.usn_reader.specs.Window.{fresh, wantedOf, finished, fedBy}
 use Rattle.usn_reader.specs.Rule.{bufferReads, reading, asking}
@@ -41,11 +41,11 @@ module _ (l o : List ℕ) (x : Reading) where
   module _ (h : 6 ≤ length l) where
     short-out : {above : Bool} → Domain above (readingOutcome x) → length o < 22 → {r : ℕ} → r ≡ shortBy above → onWindow l o x ≡ refused r
     unfolding onWindow
-    short-out d k e = room-enough _ h ∙ door-short _ d k e
+    short-out d k e = room-enough _ h ∙ domain-short _ d k e
 
     window-answers : 22 ≤ length o → onWindow l o x ≡ readingOutcome x
     unfolding onWindow
-    window-answers k = room-enough _ h ∙ door-open _ k
+    window-answers k = room-enough _ h ∙ domain-enough _ k
 
 -- the next answer x is that of the window w that is read from l
 module _ (l b o : List ℕ) (h : 6 ≤ length l) {w : UsnJournalReader} (e : w ≡ readerOf l) where
@@ -74,7 +74,7 @@ buffer-kept b x w = kept (eqb (giveRefusal (length b) (length x) w) 0) _ _ _ b _
 
 module _ (l b bytes o : List ℕ) where
   pub give-refused : {n : ℕ} → giveCall l b bytes o ≡ refused n → Gives l b bytes o n l b o
-  give-refused e = record { told = told-refused e; filled = ap (λ (y : Outcome Reading). unlessRefused y b (bufferAfter b bytes (readerOf l))) (sym e) }
+  give-refused e = record { reading = told-refused e; filled = ap (λ (y : Outcome Reading). unlessRefused y b (bufferAfter b bytes (readerOf l))) (sym e) }
 
   module _ (h : 6 ≤ length l) {w : UsnJournalReader} (e : w ≡ readerOf l) where
     pub give-short : length o < 22 → {r : ℕ} → r ≡ shortBy (ltb streamDomain (w .total)) → Gives l b bytes o r l b o
@@ -84,7 +84,7 @@ module _ (l b bytes o : List ℕ) where
         → Gives l b bytes o r l′ b′ o′
     give-answers k g t =
         let q = window-answers l o (giveOf (length b) (length bytes) (readerOf l)) h k in
-        record { told = rw q (rw (g .answer, e) at t); filled = rw q ((rw e at (g .filled)) ∙ buffer-kept b bytes (readerOf l)) }
+        record { reading = rw q (rw (g .answer, e) at t); filled = rw q ((rw e at (g .filled)) ∙ buffer-kept b bytes (readerOf l)) }
 
 -- giving never answers a record: its answer has three words, or none where it is refused
 pub give-words : (n k : ℕ) (w : UsnJournalReader) → length (readingWords (giveOf n k w)) ≤ 3

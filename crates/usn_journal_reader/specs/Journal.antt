@@ -3,13 +3,13 @@ use Prim.Native.Nat.{ℕ}
 use mathlib.Core.List.{List}
 use lib.ListN.{length}
 use Rattle.walk.specs.Outcome.{Outcome}
-use Rattle.walk.specs.Words.{atDoor, countWords}
+use Rattle.walk.specs.Words.{afterDomain, countWords}
 use Rattle.walk.specs.declared.Place.{Place}
 use Rattle.usn_journal.specs.Outcome.{scan}
 
 -- the scan of s, with lent lists for the records' places and for their number
 abbrev pub journalCall : List ℕ → List ℕ → List ℕ → Outcome (List Place)
-journalCall s list out = atDoor 1 (length out) (scan s (length list))
+journalCall s list out = afterDomain 1 (length out) (scan s (length list))
 
 -- the number of the records as a word
 abbrev pub journalWords : List Place → List ℕ

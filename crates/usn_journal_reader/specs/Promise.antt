@@ -6,7 +6,7 @@ use lib.ListN.{length}
 use Rattle.walk.specs.Lent.{Lent, before, after}
 use Rattle.walk.specs.Lists.{flatten, placeWords}
 use Rattle.walk.specs.Outcome.{Outcome}
-use Rattle.walk.specs.Words.{atDoor, Lists, AnswerPromise, ListPromise}
+use Rattle.walk.specs.Words.{afterDomain, Lists, AnswerPromise, ListPromise}
 use Rattle.usn_record.specs.Layout.{Layout}
 use Rattle.usn_record.specs.Record.{parsed, listed, recordWords}
 use Rattle.usn_record.specs.declared.UsnRecord.{UsnRecord}
@@ -18,7 +18,7 @@ use Rattle.usn_journal_reader.specs.Window.{newCall, nextCall, giveCall,
 
 -- a record
 abbrev pub RecordPromise : Outcome UsnRecord → Lent → ℕ → Type 0
-RecordPromise o words r = AnswerPromise recordWords (atDoor 19 (length (before words)) o) words r
+RecordPromise o words r = AnswerPromise recordWords (afterDomain 19 (length (before words)) o) words r
 
 -- the record that a slice begins with, and the one at an offset of an extract
 abbrev pub ParsePromise : Layout → Lent → Lent → ℕ → Type 0
@@ -44,7 +44,7 @@ NextPromise reader buffer out r = ReadingPromise (nextCall (before reader) (befo
 
 -- giving bytes: what a reading leaves, and the buffer
 pub record Gives (reader buffer bytes out : List ℕ) (r : ℕ) (reader′ buffer′ out′ : List ℕ) : Type 0 where
-  pub told : Lists windowWords readingWords (giveCall reader buffer bytes out) reader out r reader′ out′
+  pub reading : Lists windowWords readingWords (giveCall reader buffer bytes out) reader out r reader′ out′
   pub filled : buffer′ ≡ giveBuffer reader buffer bytes out
 
 abbrev pub GivePromise : Lent → Lent → Lent → Lent → ℕ → Type 0

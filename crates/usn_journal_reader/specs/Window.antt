@@ -3,7 +3,7 @@ use Prim.Native.Nat.{ℕ}
 use mathlib.Core.List.{List}
 use lib.ListN.{length}
 use Rattle.walk.specs.Outcome.{Outcome, answered}
-use Rattle.walk.specs.Words.{withRoom, atDoor, unlessRefused}
+use Rattle.walk.specs.Words.{withRoom, afterDomain, unlessRefused}
 use Rattle.usn_reader.specs.Window.{fresh}
 use Rattle.usn_reader.specs.Rule.{bufferReads}
 use Rattle.usn_reader.specs.Calls.{nextOf, giveOf, bufferAfter}
@@ -17,7 +17,7 @@ newCall total l = withRoom 6 (length l) (answered (fresh total))
 
 -- a call on a window reads the words of a window, and writes those of its answer, of which the longest is a record's
 unfoldable pub onWindow : List ℕ → List ℕ → Reading → Outcome Reading
-onWindow l out x = withRoom 6 (length l) (atDoor 22 (length out) (readingOutcome x))
+onWindow l out x = withRoom 6 (length l) (afterDomain 22 (length out) (readingOutcome x))
 
 -- the next answer of the window that l is, with the buffer b
 abbrev pub nextCall : List ℕ → List ℕ → List ℕ → Outcome Reading

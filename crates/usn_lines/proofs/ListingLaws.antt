@@ -77,7 +77,7 @@ pub begun-make-listing : (journal : List ℕ) {r : Begun} {list′ words′ : Li
 unfolding listing
 begun-make-listing journal {r} {list′} {words′} b =
     let stands : standing words′ (r .rewind) ≡ begins journal (listOf journal) noWords noWords = λ i. record { words = b .forward i; rewind = b .state i } in
-    ap (λ (l : List ℕ). all (allParts journal l (standing words′ (r .rewind)))) (b .listed)
+    ap (λ (l : List ℕ). all (allParts journal l (standing words′ (r .rewind)))) (b .list-is)
     ∙ ap (λ (s : Standing). all (allParts journal (listOf journal) s)) stands
     ∙ parts-make-listing journal (listOf journal) (begins journal (listOf journal) noWords noWords)
 

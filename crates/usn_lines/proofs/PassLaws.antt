@@ -103,7 +103,7 @@ module _ (journal list : List ℕ) (h : (length journal ≤ 65536) × (length li
         let v : Passes (begins journal (listOf journal) first words) r words′ = rw scan-list at w in
         record {
           count = scan-count;
-          listed = scan-list;
+          list-is = scan-list;
           inside = omega (arith, scan-most, k, h .1);
           state = v .state;
           forward = v .forward;

@@ -66,7 +66,7 @@ StartPromise journal records first forward r = Passes (begins (before journal) (
 -- where a listing begins: how many records there are, the list of them, and the start of their rewind
 pub record Begins (journal words₀ words : List ℕ) (r : Begun) (list′ words′ : List ℕ) : Type 0 where
   pub count : r .records ≡ length (scanned journal)
-  pub listed : take (2 * r .records) list′ ≡ listOf journal
+  pub list-is : take (2 * r .records) list′ ≡ listOf journal
   pub inside : 2 * r .records ≤ length list′
   pub state : r .rewind ≡ begins journal (listOf journal) words₀ words .rewind
   pub forward : words′ ≡ begins journal (listOf journal) words₀ words .words

@@ -76,7 +76,7 @@ module _ (s : List ℕ) (w : UsnJournalReader) (ov : Over s w) (live : w .ended 
       record {
         whole = h;
         over = record { total = ov .total; steady = st };
-        tells = record { fields = r; is = e; named = refl; size = en };
+        tells = record { fields = r; is = e; name-is = refl; size = en };
         ends = λ f. absurd (not-record f);
         quiet = λ f. absurd (true≢false (sym f ∙ live));
       }

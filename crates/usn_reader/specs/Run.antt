@@ -90,7 +90,7 @@ coming s w = toCome s (w .position) (w .end)
 pub record RecordGiven (s : List ℕ) (o n : ℕ) (r : UsnRecord) (w : UsnJournalReader) : Type 0 where
   pub fields : UsnRecord
   pub is : listed s o ≡ answered fields
-  pub named : r ≡ namedFrom (o - w .start) fields
+  pub name-is : r ≡ namedFrom (o - w .start) fields
   pub size : n ≡ leAt 4 s o
 
 abbrev pub GivesRecord : List ℕ → Answer → UsnJournalReader → Type 0

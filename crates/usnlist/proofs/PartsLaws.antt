@@ -53,5 +53,5 @@ pub all-listed : (journal first words : List ℕ) {r : Begun} {list′ words′ 
 all-listed journal first words {r} {list′} {words′} {words″} b e =
     let stands : standing words′ (r .rewind) ≡ begins journal (listOf journal) first words = λ i. record { words = b .forward i; rewind = b .state i } in
     e
-    ∙ ap (λ (l : List ℕ). afterAll journal l (standing words′ (r .rewind)) .words) (b .listed)
+    ∙ ap (λ (l : List ℕ). afterAll journal l (standing words′ (r .rewind)) .words) (b .list-is)
     ∙ ap (λ (s : Standing). afterAll journal (listOf journal) s .words) stands

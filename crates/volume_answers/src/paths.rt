@@ -41,7 +41,7 @@ pub fn put_path(answer: PathAnswer, out: &mut [u64]) -> u32
     ensures { λ r. ⌜ AnswerPromise writtenWords (pathOutcome answer) out r ⌝ }
 {
     match answer {
-        PathAnswer::Path { path, text } => put_row(&told_row(path, text), out),
+        PathAnswer::Path { path, text } => put_row(&written_row(path, text), out),
         PathAnswer::Refused(n) => n,
     }
 }
@@ -56,7 +56,7 @@ pub(crate) fn resolved_row(path: ResolvedPath) -> [u64; CHAIN_WORDS]
 }
 
 // Names, end and the text's length.
-pub(crate) fn told_row(path: ResolvedPath, text: usize) -> [u64; PATH_WORDS]
+pub(crate) fn written_row(path: ResolvedPath, text: usize) -> [u64; PATH_WORDS]
     ensures { λ row. ⌜ row ≡ writtenWords (record { path = path; text = text }) ⌝ }
 {
     let last = path.end;

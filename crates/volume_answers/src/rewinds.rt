@@ -10,7 +10,7 @@ ghost use Rattle.rewind.specs.Written.{writtenOutcome};
 ghost use Rattle.volume_answers.specs.Path.{resolvedWords, writtenWords};
 ghost use Rattle.volume_answers.specs.Rewind.{rewindWords, nextWords};
 use crate::paths::resolved_row;
-use crate::paths::told_row;
+use crate::paths::written_row;
 use rewind::ChainStep;
 use rewind::NextChain;
 use rewind::NextPath;
@@ -68,7 +68,11 @@ pub fn put_path_step(step: PathStep, out: &mut [u64]) -> u32
     let next = step.next;
     match next {
         NextPath::Record { path, text } => {
-            put_rows(&state_row(KIND_RECORD, rewind), &told_row(path, text), out)
+            put_rows(
+                &state_row(KIND_RECORD, rewind),
+                &written_row(path, text),
+                out,
+            )
         }
         NextPath::End => put_row(&state_row(KIND_END, rewind), out),
         NextPath::Refused(n) => n,

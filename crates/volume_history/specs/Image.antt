@@ -4,14 +4,14 @@ use mathlib.Core.List.{List}
 use lib.ListN.{length}
 use Rattle.walk.specs.Lists.{flatten}
 use Rattle.walk.specs.Outcome.{Outcome}
-use Rattle.walk.specs.Words.{atDoor}
+use Rattle.walk.specs.Words.{afterDomain}
 use Rattle.mft_carver.specs.Settings.{standard}
 use Rattle.mft_carver.specs.Carve.{carving, entriesIn, entryWords}
 use Rattle.mft_carver.specs.declared.MftCarvingStats.{MftCarvingStats}
 
 -- carving s, with lent lists for the entries and for the counters
 abbrev pub carveCall : List ℕ → List ℕ → List ℕ → Outcome MftCarvingStats
-carveCall s list out = atDoor 4 (length out) (carving standard s (length list))
+carveCall s list out = afterDomain 4 (length out) (carving standard s (length list))
 
 -- the words of the entries that are carved from s
 abbrev pub carvedWords : List ℕ → MftCarvingStats → List ℕ

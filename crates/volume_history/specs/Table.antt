@@ -4,7 +4,7 @@ use mathlib.Core.List.{List}
 use mathlib.Core.Bool.{Bool}
 use lib.ListN.{length}
 use Rattle.walk.specs.Outcome.{Outcome}
-use Rattle.walk.specs.Words.{atDoor, countWords}
+use Rattle.walk.specs.Words.{afterDomain, countWords}
 use Rattle.entry_slots.specs.Names.{lengthsOf}
 use Rattle.entry_slots.specs.Table.{Table, table}
 use Rattle.additions.specs.Storing.{inserting}
@@ -23,11 +23,11 @@ infoOf parent sequence source offset length =
 -- an insertion, with lent words for the table and for the number of its used slots
 abbrev pub insertCall : List ℕ → List ℕ → List ℕ → ℕ → EntryKey → EntryInfo → Bool → List ℕ → Outcome Table
 insertCall journal image slots used key info replace out =
-    atDoor 1 (length out) (inserting (lengthsOf journal image) (table slots used) key info replace)
+    afterDomain 1 (length out) (inserting (lengthsOf journal image) (table slots used) key info replace)
 
 -- seeding with a list of carved entries
 abbrev pub seedCall : List ℕ → List ℕ → List ℕ → ℕ → List ℕ → List ℕ → Outcome Table
-seedCall journal image slots used entries out = atDoor 1 (length out) (seeding (lengthsOf journal image) (table slots used) entries)
+seedCall journal image slots used entries out = afterDomain 1 (length out) (seeding (lengthsOf journal image) (table slots used) entries)
 
 -- the word of a table's used slots
 abbrev pub usedWords : Table → List ℕ

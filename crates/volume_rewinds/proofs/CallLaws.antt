@@ -5,8 +5,8 @@ use mathlib.Core.List.{List}
 use mathlib.Core.Bool.{Bool}
 use lib.ListN.{length}
 use Rattle.walk.specs.Outcome.{Outcome, refused, mapOutcome}
-use Rattle.walk.specs.Words.{shortBy, atDoor, Answers}
-use Rattle.walk.proofs.WordLaws.{Domain, door-short, door-open, out-same, out-mapped}
+use Rattle.walk.specs.Words.{shortBy, afterDomain, Answers}
+use Rattle.walk.proofs.WordLaws.{Domain, domain-short, domain-enough, out-same, out-mapped}
 use Rattle.entry_slots.specs.Slots.{slotsIn}
 use Rattle.entry_slots.specs.Index.{headsLeft, nextsLeft}
 use Rattle.rewind.specs.Starting.{Tables, firstAfter, forwardAfter}
@@ -23,16 +23,16 @@ use Rattle.volume_rewinds.proofs.DomainLaws.{run-domain}
 
 -- a start, where x is the outcome of the call that is made when the list takes the words
 module _ (x : Outcome Tables) (s f h n l : List ℕ) where
-  pub starts-indexed-short : {above : Bool} → Domain above x → length l < 2 → {r : ℕ} → r ≡ shortBy above → StartCalls (atDoor 2 (length l) x) s f h n l r s f h n l
+  pub starts-indexed-short : {above : Bool} → Domain above x → length l < 2 → {r : ℕ} → r ≡ shortBy above → StartCalls (afterDomain 2 (length l) x) s f h n l r s f h n l
   starts-indexed-short d q {r} g =
-      let e = door-short x d q g in
+      let e = domain-short x d q g in
       let left = left-refused (slotsIn s) (refused r) h n refl in
       rw e (record { start = record { answer = refl; first = refl; second = refl; row = refl }; heads-are = left .0; nexts-are = left .1 })
 
   pub starts-indexed-answered : 2 ≤ length l → {t g h′ n′ m : List ℕ} {r : ℕ} → t ≡ firstAfter x s → g ≡ forwardAfter x f → h′ ≡ headsLeft (slotsIn s) (firstOf x) h n
-      → n′ ≡ nextsLeft (slotsIn s) (firstOf x) h n → Answers startWords x l r m → StartCalls (atDoor 2 (length l) x) s f h n l r t g h′ n′ m
+      → n′ ≡ nextsLeft (slotsIn s) (firstOf x) h n → Answers startWords x l r m → StartCalls (afterDomain 2 (length l) x) s f h n l r t g h′ n′ m
   starts-indexed-answered q a b c d o =
-      rw (door-open x q) (record { start = record { answer = o .answer; first = a; second = b; row = o .row }; heads-are = c; nexts-are = d })
+      rw (domain-enough x q) (record { start = record { answer = o .answer; first = a; second = b; row = o .row }; heads-are = c; nexts-are = d })
 
 -- a run: too few words for its answer, or what the run itself promises
 module _ (journal image records words : List ℕ) (rewind : Rewind) (heads nexts ends text out : List ℕ) where
@@ -44,15 +44,15 @@ module _ (journal image records words : List ℕ) (rewind : Rewind) (heads nexts
 
   pub runs-short : length out < 4 → {n : ℕ} → n ≡ shortBy (eitherAbove journal image) → Calls n words heads nexts ends text out
   runs-short q {n} e =
-      let w = door-short plainly (run-domain journal image records words rewind (length text) (length ends)) q e in
-      let left = left-refused (slotsIn words) (mapOutcome runTable (atDoor 4 (length out) plainly)) heads nexts (ap (mapOutcome runTable) w) in
-      record { answer = rw w; forward = rw w; heads-are = left .0; nexts-are = left .1; ends-are = rw w; text-is = rw w; told = rw w }
+      let w = domain-short plainly (run-domain journal image records words rewind (length text) (length ends)) q e in
+      let left = left-refused (slotsIn words) (mapOutcome runTable (afterDomain 4 (length out) plainly)) heads nexts (ap (mapOutcome runTable) w) in
+      record { answer = rw w; forward = rw w; heads-are = left .0; nexts-are = left .1; ends-are = rw w; text-is = rw w; row = rw w }
 
   pub runs-answered : 4 ≤ length out → {y : RunAnswer} {n : ℕ} {words′ heads′ nexts′ ends′ text′ out′ : List ℕ}
       → RunsIndexed journal image records words rewind heads nexts ends text y words′ heads′ nexts′ ends′ text′ → Answers rowOf (runOutcome y) out n out′
       → Calls n words′ heads′ nexts′ ends′ text′ out′
   runs-answered q c o =
-      let w = door-open plainly q in
+      let w = domain-enough plainly q in
       let a = out-mapped plainly (out-same o (c .answer)) in
       record {
         answer = rw w (a .answer);
@@ -61,5 +61,5 @@ module _ (journal image records words : List ℕ) (rewind : Rewind) (heads nexts
         nexts-are = rw w (c .nexts-are);
         ends-are = rw w (c .ends-are);
         text-is = rw w (c .text-is);
-        told = rw w (a .row);
+        row = rw w (a .row);
       }

@@ -6,8 +6,8 @@ use mathlib.Core.Bool.{Bool}
 use lib.ListN.{length}
 use Rattle.walk.specs.Lists.{listAfter}
 use Rattle.walk.specs.Outcome.{Outcome, refused, answered, mapOutcome}
-use Rattle.walk.specs.Words.{shortBy, atDoor, Answers}
-use Rattle.walk.proofs.WordLaws.{Domain, door-short, door-open}
+use Rattle.walk.specs.Words.{shortBy, afterDomain, Answers}
+use Rattle.walk.proofs.WordLaws.{Domain, domain-short, domain-enough}
 use Rattle.rewind.specs.Starting.{Tables, firstAfter, forwardAfter}
 use Rattle.rewind_records.specs.Turning.{Next, ended, next, mapNext}
 use Rattle.rewind_steps.specs.Taking.{Step}
@@ -19,12 +19,12 @@ use Rattle.volume_rewinds.specs.Rewind.{startWords, stepWords}
 
 -- x is the outcome where the list takes the words
 module _ (x : Outcome Tables) (s f l : List ℕ) where
-  pub starts-short : {above : Bool} → Domain above x → length l < 2 → {r : ℕ} → r ≡ shortBy above → Starts (atDoor 2 (length l) x) s f l r s f l
-  starts-short d h g = let e = door-short x d h g in rw e (record { answer = refl; first = refl; second = refl; row = refl })
+  pub starts-short : {above : Bool} → Domain above x → length l < 2 → {r : ℕ} → r ≡ shortBy above → Starts (afterDomain 2 (length l) x) s f l r s f l
+  starts-short d h g = let e = domain-short x d h g in rw e (record { answer = refl; first = refl; second = refl; row = refl })
 
   pub starts-answered : 2 ≤ length l → {t g m : List ℕ} {r : ℕ} → t ≡ firstAfter x s → g ≡ forwardAfter x f → Answers startWords x l r m
-      → Starts (atDoor 2 (length l) x) s f l r t g m
-  starts-answered h e i o = rw (door-open x h) (record { answer = o .answer; first = e; second = i; row = o .row })
+      → Starts (afterDomain 2 (length l) x) s f l r t g m
+  starts-answered h e i o = rw (domain-enough x h) (record { answer = o .answer; first = e; second = i; row = o .row })
 
 -- a step's answer y and its state v are what the outcome x says
 pub step-out : {A : Type 0} {words : A → List ℕ} {made : Step → A} (w : Rewind) (x : Outcome (Next Step)) {y : Outcome (Next A)} {v : Rewind}
@@ -36,17 +36,17 @@ step-out w (answered (next s)) e f o = let p = rw (e, f) at o in record { answer
 
 -- x is the outcome where the list takes the n words
 module _ (words : Next Step → List ℕ) (n : ℕ) (x : Outcome (Next Step)) (s c l : List ℕ) where
-  pub steps-short : {above : Bool} → Domain above x → length l < n → {r : ℕ} → r ≡ shortBy above → Steps words (atDoor n (length l) x) s c l r s c l
-  steps-short d h g = let e = door-short x d h g in rw e (record { answer = refl; table = refl; places = refl; row = refl })
+  pub steps-short : {above : Bool} → Domain above x → length l < n → {r : ℕ} → r ≡ shortBy above → Steps words (afterDomain n (length l) x) s c l r s c l
+  steps-short d h g = let e = domain-short x d h g in rw e (record { answer = refl; table = refl; places = refl; row = refl })
 
   pub steps-answered : n ≤ length l → {t d m : List ℕ} {r : ℕ} → t ≡ wordsAfter x s → d ≡ chainAfter x c → Answers words x l r m
-      → Steps words (atDoor n (length l) x) s c l r t d m
-  steps-answered h e f o = rw (door-open x h) (record { answer = o .answer; table = e; places = f; row = o .row })
+      → Steps words (afterDomain n (length l) x) s c l r t d m
+  steps-answered h e f o = rw (domain-enough x h) (record { answer = o .answer; table = e; places = f; row = o .row })
 
 module _ (text words : Next Step → List ℕ) (n : ℕ) (x : Outcome (Next Step)) (s c a l : List ℕ) where
-  pub steps-told-short : {above : Bool} → Domain above x → length l < n → {r : ℕ} → r ≡ shortBy above → StepsTold text words (atDoor n (length l) x) s c a l r s c a l
-  steps-told-short d h g = let e = door-short x d h g in rw e (record { answer = refl; table = refl; places = refl; written = refl; row = refl })
+  pub steps-told-short : {above : Bool} → Domain above x → length l < n → {r : ℕ} → r ≡ shortBy above → StepsTold text words (afterDomain n (length l) x) s c a l r s c a l
+  steps-told-short d h g = let e = domain-short x d h g in rw e (record { answer = refl; table = refl; places = refl; written = refl; row = refl })
 
   pub steps-told-answered : n ≤ length l → {t d b m : List ℕ} {r : ℕ} → t ≡ wordsAfter x s → d ≡ chainAfter x c → b ≡ listAfter text x a → Answers words x l r m
-      → StepsTold text words (atDoor n (length l) x) s c a l r t d b m
-  steps-told-answered h e f g o = rw (door-open x h) (record { answer = o .answer; table = e; places = f; written = g; row = o .row })
+      → StepsTold text words (afterDomain n (length l) x) s c a l r t d b m
+  steps-told-answered h e f g o = rw (domain-enough x h) (record { answer = o .answer; table = e; places = f; written = g; row = o .row })

@@ -82,7 +82,7 @@ module _ (journal image records words : List ℕ) (rewind : Rewind) (heads nexts
     pub nexts-are : nexts′ ≡ nextsLeft (slotsIn words) (mapOutcome runTable call) heads nexts
     pub ends-are : ends′ ≡ listAfter (λ (x : Run). x .ends) call ends
     pub text-is : text′ ≡ listAfter (λ (x : Run). x .text) call text
-    pub told : out′ ≡ listAfter runWords call out
+    pub row : out′ ≡ listAfter runWords call out
 
 abbrev pub RunCallPromise : Lent → Lent → Lent → Rewind → Lent → Lent → Lent → Lent → Lent → Lent → ℕ → Type 0
 RunCallPromise journal image records rewind forward heads nexts ends text out r =

@@ -3,7 +3,7 @@ use Prim.Native.Nat.{ℕ}
 use mathlib.Core.List.{List}
 use lib.ListN.{length}
 use Rattle.walk.specs.Outcome.{Outcome, answered}
-use Rattle.walk.specs.Words.{atDoor}
+use Rattle.walk.specs.Words.{afterDomain}
 use Rattle.entry_slots.specs.Table.{table}
 use Rattle.chain.specs.Chain.{resolved}
 use Rattle.rewind.specs.Starting.{Tables, started, begun}
@@ -21,7 +21,7 @@ rewindOf used position = record { used = used; position = position }
 
 -- a start, with lent words for both tables and for the state
 abbrev pub startCall : List ℕ → List ℕ → List ℕ → List ℕ → ℕ → List ℕ → List ℕ → Outcome Tables
-startCall journal image records slots used forward out = atDoor 2 (length out) (started journal image records (table slots used) forward)
+startCall journal image records slots used forward out = afterDomain 2 (length out) (started journal image records (table slots used) forward)
 
 abbrev pub startWords : Tables → List ℕ
 startWords ts = rewindWords (begun ts)
@@ -39,8 +39,8 @@ pathStepWords journal image x = writtenWords (writtenStep journal image x)
 
 -- a step without text, from a state, with lent words for the forward table and for the answer
 abbrev pub chainStepCall : List ℕ → List ℕ → List ℕ → Rewind → List ℕ → List ℕ → Outcome (Next Step)
-chainStepCall journal image records r forward out = atDoor 7 (length out) (stepped journal image records forward r)
+chainStepCall journal image records r forward out = afterDomain 7 (length out) (stepped journal image records forward r)
 
 -- and with it
 abbrev pub pathStepCall : List ℕ → List ℕ → List ℕ → Rewind → List ℕ → List ℕ → List ℕ → Outcome (Next Step)
-pathStepCall journal image records r forward text out = atDoor 8 (length out) (steppedWithText journal image records forward r (length text))
+pathStepCall journal image records r forward text out = afterDomain 8 (length out) (steppedWithText journal image records forward r (length text))

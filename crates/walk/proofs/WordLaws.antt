@@ -11,7 +11,7 @@ use borrow.Author.Tests.{lt-ltb, le-ltb}
 use Rattle.walk.specs.Lists.{listAfter}
 use Rattle.walk.specs.Outcome.{Outcome, refused, answered, mapOutcome}
 use Rattle.walk.specs.Refusals.{aboveDomain, listFull}
-use Rattle.walk.specs.Words.{number, withRoom, shortBy, atDoor, Row, Answers, Lists}
+use Rattle.walk.specs.Words.{number, withRoom, shortBy, afterDomain, Row, Answers, Lists}
 use Rattle.walk.proofs.ChoiceLaws.{cond-cases}
 use Rattle.walk.proofs.ListLaws.{sets-front, sets-append}
 
@@ -32,7 +32,7 @@ module _ {A : Type 0} (words : A → List ℕ) {x : Outcome A} {l : List ℕ} wh
 
 -- what goes out in one list and in another goes out in both
 pub out-both : {A : Type 0} {words words′ : A → List ℕ} {x : Outcome A} {l m l′ m′ : List ℕ} {r : ℕ} → Answers words x l r m → Answers words′ x l′ r m′ → Lists words words′ x l l′ r m m′
-out-both o p = record { answer = o .answer; listed = o .row; row = p .row }
+out-both o p = record { answer = o .answer; list-is = o .row; row = p .row }
 
 module _ {A : Type 0} {words : A → List ℕ} {l m : List ℕ} {r : ℕ} where
   -- an outcome that equals another goes out as it does
@@ -74,18 +74,18 @@ module _ {A : Type 0} where
 
 -- a call with too few words for its answer, and with enough
 module _ {A : Type 0} (x : Outcome A) {n room : ℕ} where
-  pub door-short : {above : Bool} → Domain above x → room < n → {r : ℕ} → r ≡ shortBy above → atDoor n room x ≡ refused r
-  unfolding atDoor
-  door-short d h e = rw (lt-ltb _ _ h, d .test, e)
+  pub domain-short : {above : Bool} → Domain above x → room < n → {r : ℕ} → r ≡ shortBy above → afterDomain n room x ≡ refused r
+  unfolding afterDomain
+  domain-short d h e = rw (lt-ltb _ _ h, d .test, e)
 
-  pub door-open : n ≤ room → atDoor n room x ≡ x
-  unfolding atDoor
-  door-open h = simp (le-ltb _ _ h)
+  pub domain-enough : n ≤ room → afterDomain n room x ≡ x
+  unfolding afterDomain
+  domain-enough h = simp (le-ltb _ _ h)
 
 -- A call whose second list takes the n words of its answer: its callee has the outcome x and leaves m in the first.
 module _ {A : Type 0} (words words′ : A → List ℕ) (n : ℕ) (x : Outcome A) (l l′ : List ℕ) where
-  pub lists-short : {above : Bool} → Domain above x → length l′ < n → {r : ℕ} → r ≡ shortBy above → Lists words words′ (atDoor n (length l′) x) l l′ r l l′
-  lists-short d h e = let q = door-short x d h e in out-both (refused-out words q) (refused-out words′ q)
+  pub lists-short : {above : Bool} → Domain above x → length l′ < n → {r : ℕ} → r ≡ shortBy above → Lists words words′ (afterDomain n (length l′) x) l l′ r l l′
+  lists-short d h e = let q = domain-short x d h e in out-both (refused-out words q) (refused-out words′ q)
 
-  pub lists-answered : n ≤ length l′ → {m m′ : List ℕ} {r : ℕ} → m ≡ listAfter words x l → Answers words′ x l′ r m′ → Lists words words′ (atDoor n (length l′) x) l l′ r m m′
-  lists-answered h e o = rw (door-open x h) (record { answer = o .answer; listed = e; row = o .row })
+  pub lists-answered : n ≤ length l′ → {m m′ : List ℕ} {r : ℕ} → m ≡ listAfter words x l → Answers words′ x l′ r m′ → Lists words words′ (afterDomain n (length l′) x) l l′ r m m′
+  lists-answered h e o = rw (domain-enough x h) (record { answer = o .answer; list-is = e; row = o .row })

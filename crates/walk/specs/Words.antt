@@ -27,8 +27,8 @@ abbrev pub shortBy : Bool → ℕ
 shortBy above = cond above aboveDomain listFull
 
 -- words that a call writes: with too few of them it is refused behind the test of the domain and before every other. x is the outcome with enough.
-unfoldable pub atDoor : {A : Type 0} → ℕ → ℕ → Outcome A → Outcome A
-atDoor words room x = cond (ltb room words) (refused (shortBy (eqb (number x) aboveDomain))) x
+unfoldable pub afterDomain : {A : Type 0} → ℕ → ℕ → Outcome A → Outcome A
+afterDomain words room x = cond (ltb room words) (refused (shortBy (eqb (number x) aboveDomain))) x
 
 -- what a lent buffer that held b holds after a call: b where the call is refused, else b′
 abbrev pub unlessRefused : {A : Type 0} → Outcome A → List ℕ → List ℕ → List ℕ
@@ -57,7 +57,7 @@ AnswerPromise words o out r = Answers words o (before out) r (after out)
 -- an answer with a list: its number, the list, and its words
 pub record Lists {A : Type 0} (items words : A → List ℕ) (o : Outcome A) (list out : List ℕ) (r : ℕ) (list′ out′ : List ℕ) : Type 0 where
   pub answer : r ≡ number o
-  pub listed : list′ ≡ listAfter items o list
+  pub list-is : list′ ≡ listAfter items o list
   pub row : out′ ≡ listAfter words o out
 
 abbrev pub ListPromise : {A : Type 0} → (A → List ℕ) → (A → List ℕ) → Outcome A → Lent → Lent → ℕ → Type 0

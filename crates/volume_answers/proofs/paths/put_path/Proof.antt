@@ -10,8 +10,8 @@ use Rattle.volume_answers.proofs.paths.put_path.Tie as tie
 enum-known-answer : tie.Need-enum-known-answer
 enum-known-answer c = search needs
 
-told-row-requires : tie.Need-told-row-requires
-told-row-requires c κs = search needs
+written-row-requires : tie.Need-written-row-requires
+written-row-requires c κs = search needs
 
 slice-aggregate-put-row : tie.Need-slice-aggregate-put-row
 slice-aggregate-put-row c = search needs
@@ -26,7 +26,7 @@ same-length : tie.Need-same-length
 same-length c = search needs
 
 returns : tie.Need-returns
-returns c = row-out writtenWords (ap outcome (c .before .before .before .before .before .before .before .answer .given .1)) (c .before .before .before .before .before .told-row .ensures) (c .before .before .put-row .ensures)
+returns c = row-out writtenWords (ap outcome (c .before .before .before .before .before .before .before .answer .given .1)) (c .before .before .before .before .before .written-row .ensures) (c .before .before .put-row .ensures)
 
 returns-2 : tie.Need-returns-2
 returns-2 c = search needs
@@ -36,7 +36,7 @@ put-path-spec =
     tie.close
     (tie.spec
     enum-known-answer
-    told-row-requires
+    written-row-requires
     slice-aggregate-put-row
     put-row-requires
     enum-known-answer-2

@@ -18,8 +18,8 @@ state-row-requires c κs = search needs
 slice-aggregate-put-rows : tie.Need-slice-aggregate-put-rows
 slice-aggregate-put-rows c = search needs
 
-told-row-requires : tie.Need-told-row-requires
-told-row-requires c κs = search needs
+written-row-requires : tie.Need-written-row-requires
+written-row-requires c κs = search needs
 
 slice-aggregate-put-rows-2 : tie.Need-slice-aggregate-put-rows-2
 slice-aggregate-put-rows-2 c = search needs
@@ -46,7 +46,7 @@ same-length : tie.Need-same-length
 same-length c = search needs
 
 returns : tie.Need-returns
-returns c = step-out writtenWords _ (ap writtenOutcome (c .before .before .before .before .before .before .before .before .before .next .given .1)) (c .before .before .before .before .before .before .before .state-row .ensures) (c .before .before .before .before .before .told-row .ensures) (c .before .before .put-rows .ensures)
+returns c = step-out writtenWords _ (ap writtenOutcome (c .before .before .before .before .before .before .before .before .before .next .given .1)) (c .before .before .before .before .before .before .before .state-row .ensures) (c .before .before .before .before .before .written-row .ensures) (c .before .before .put-rows .ensures)
 
 same-length-2 : tie.Need-same-length-2
 same-length-2 c = search needs
@@ -64,7 +64,7 @@ put-path-step-spec =
     enum-known-next
     state-row-requires
     slice-aggregate-put-rows
-    told-row-requires
+    written-row-requires
     slice-aggregate-put-rows-2
     put-rows-requires
     enum-told
