@@ -120,14 +120,6 @@ fn first_of(journal: &[u8], image: &[u8], name: NamePlace) -> u8 {
     byte_at(image, name.offset as usize)
 }
 
-// The key where there is none.
-fn nowhere() -> EntryKey {
-    EntryKey {
-        entry: 0,
-        sequence: 0,
-    }
-}
-
 // Follows the link of a record; the low byte of where it then leads.
 fn follow(slots: &[u64], nexts: &[u64], ways: &mut [u64; WAYS], x: usize) -> u8
     requires { ⌜ x < batch ⌝ }
@@ -138,7 +130,8 @@ fn follow(slots: &[u64], nexts: &[u64], ways: &mut [u64; WAYS], x: usize) -> u8
     (next % 256) as u8
 }
 
-// Rises from the slot of a record to its parent; the first byte of the name in the slot. Where there is none, key 0, 0 is next.
+// Rises from the slot of a record to its parent; the first byte of the name in the slot. Where there is none, nothing more is read for
+// the record.
 fn rise(
     journal: &[u8],
     image: &[u8],
@@ -151,7 +144,6 @@ fn rise(
 {
     let n = reach(slots, ways[x * WAY + 2]);
     if n == 0 {
-        set_out(heads, ways, x, nowhere());
         return 0;
     }
     let info = info_at(slots, n - 1);

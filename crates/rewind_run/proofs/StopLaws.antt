@@ -2,7 +2,7 @@
 use Prim.Native.Nat.{ℕ, zero, suc, _+_, _-_, _≤_, _<_}
 use mathlib.Core.Path.{_≡_, refl, ap, sym, _∙_}
 use mathlib.Core.Logic.{_⊎_, inl, inr, ⊎-elim}
-use mathlib.Core.List.{List, [], _∷_, _++_}
+use mathlib.Core.List.{List, [], _∷_}
 use mathlib.Core.Bool.{Bool, true, false, cond, not, _||_}
 use native.Mathlib.Omega.{arith}
 use borrow.Author.Tests.{ltb-true, ltb-false, eqb-true}
@@ -152,7 +152,7 @@ module _ (journal image records : List ℕ) (room asked : ℕ) where
       go (answered ended) g more = inr (inl (record { says = s; steps = omega (arith, e); none-left = step-ended journal image records (r .words) (r .rewind .used) (r .rewind .position) p (room - length (r .text)) g }))
       go (answered (next x)) g more =
           let made = made-step journal image records (r .words) (r .rewind .used) (r .rewind .position) p (room - length (r .text)) g in
-          let f = length-append (r .ends) (length (r .text ++ recordText journal image x) ∷ []) in
+          let f : length (oneMore journal image r x .ends) ≡ length (r .ends) + 1 = length-append (r .ends) _ in
           more (oneMore journal image r x) refl (made .passes) (omega (arith, e, f))
 
 -- A call that is answered: its tests have passed, its run is over for one of these reasons, and what it says of that is 0, 6 or 8.
