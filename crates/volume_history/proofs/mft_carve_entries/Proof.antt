@@ -24,7 +24,7 @@ same-length-2 : tie.Need-same-length-2
 same-length-2 c = search needs
 
 returns-2 : tie.Need-returns-2
-returns-2 c = lists-answered _ _ _ _ _ _ (c .before .before .before .before .before .before .before .before .if1 .left) (c .before .before .before .before .before .before .carve-mft-entries .ensures .listed) (out-same (c .before .before .put-image-stats .ensures) (c .before .before .before .before .before .before .carve-mft-entries .ensures .answer))
+returns-2 c = lists-answered _ _ _ _ _ _ (c .before .before .before .before .before .before .before .before .if1 .left) (c .before .before .before .before .before .before .carve-mft-entries .ensures .list-is) (out-same (c .before .before .put-image-stats .ensures) (c .before .before .before .before .before .before .carve-mft-entries .ensures .answer))
 
 pub mft-carve-entries-spec : {M : Type 1} → statement M
 mft-carve-entries-spec =
