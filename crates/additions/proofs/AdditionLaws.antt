@@ -10,7 +10,7 @@ use native.Mathlib.Numerals.{add-one}
 use borrow.Author.Tests.{le-leb, lt-leb}
 use lib.ListN.{length}
 use lib.Dec.{leb}
-use Rattle.walk.specs.Outcome.{Outcome, refused, answered}
+use Rattle.base.specs.Outcome.{Outcome, refused, answered}
 use Rattle.entry_slots.specs.Slots.{slotsIn, sameKey, rows}
 use Rattle.entry_slots.specs.Table.{Table, table, find, isAt, known, Addition, addition}
 use Rattle.additions.specs.Storing.{newKeys, seen, keysOf, adding, usedAfter, wordsAfter}

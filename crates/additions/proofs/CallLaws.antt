@@ -8,10 +8,10 @@ use native.Mathlib.Omega.{arith}
 use borrow.Author.Tests.{ltb-true, ltb-false, not-false}
 use lib.ListN.{length}
 use lib.Dec.{ltb}
-use Rattle.walk.specs.Lists.{every}
-use Rattle.walk.specs.Outcome.{Outcome, refused, answered, andThen}
-use Rattle.walk.specs.Refusals.{badState, nameOutside, tableFull}
-use Rattle.walk.proofs.ChoiceLaws.{cond-cases, and-left, and-right}
+use Rattle.base.specs.Lists.{every}
+use Rattle.base.specs.Outcome.{Outcome, refused, answered, andThen}
+use Rattle.base.specs.Refusals.{badState, nameOutside, tableFull}
+use Rattle.base.proofs.ChoiceLaws.{cond-cases, and-left, and-right}
 use Rattle.entry_slots.specs.Names.{Lengths, lengthsOf, inside, allInside}
 use Rattle.entry_slots.specs.Slots.{slotsIn, sameKey}
 use Rattle.entry_slots.specs.Table.{Table, entered, lookup, known, Addition, addition, add}

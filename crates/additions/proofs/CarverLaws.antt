@@ -6,8 +6,8 @@ use mathlib.Core.Bool.{Bool}
 use native.Mathlib.Omega.{arith}
 use lib.ListN.{length, getD}
 use lib.Seq.{getD-append-add}
-use Rattle.walk.specs.Lists.{flatten}
-use Rattle.walk.proofs.ListLaws.{length-flatten}
+use Rattle.base.specs.Lists.{flatten}
+use Rattle.base.proofs.ListLaws.{length-flatten}
 use Rattle.mft_carver.specs.Carve.{entryWords}
 use Rattle.mft_carver.specs.declared.CarvedMftEntry.{CarvedMftEntry}
 use Rattle.entry_slots.specs.Names.{Lengths, allInside}

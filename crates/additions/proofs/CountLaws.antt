@@ -6,7 +6,7 @@ use mathlib.Core.Bool.{Bool, true, false, cond, _||_}
 use native.Mathlib.Omega.{arith}
 use borrow.Author.Tests.{le-ltb}
 use lib.ListN.{length}
-use Rattle.walk.specs.Outcome.{Outcome, refused, answered}
+use Rattle.base.specs.Outcome.{Outcome, refused, answered}
 use Rattle.entry_slots.specs.Slots.{slotsIn, sameKey}
 use Rattle.entry_slots.specs.Table.{Table, table, known, Addition, add}
 use Rattle.additions.specs.Storing.{addAll, newKeys, keysOf, adding, usedAfter, wordsAfter}

@@ -7,10 +7,10 @@ use native.Mathlib.Omega.{arith}
 use borrow.Author.Tests.{le-leb}
 use lib.ListN.{length}
 use lib.Dec.{eqb}
-use Rattle.walk.specs.Outcome.{Outcome, refused, answered, mapOutcome}
-use Rattle.walk.specs.Places.{emptyPlace, placeFrom}
-use Rattle.walk.specs.declared.Place.{Place}
-use Rattle.walk.proofs.ChoiceLaws.{cond-cases}
+use Rattle.base.specs.Outcome.{Outcome, refused, answered, mapOutcome}
+use Rattle.base.specs.Places.{emptyPlace, placeFrom}
+use Rattle.base.specs.declared.Place.{Place}
+use Rattle.base.proofs.ChoiceLaws.{cond-cases}
 use Rattle.usn_record.specs.Record.{listed, outcome, isAnswered}
 use Rattle.usn_record.specs.declared.UsnRecord.{UsnRecord}
 use Rattle.usn_record.specs.declared.Parsed.{Parsed}

@@ -3,8 +3,8 @@ use Prim.Native.Nat.{ℕ}
 use mathlib.Core.Path.{_≡_, refl}
 use mathlib.Core.List.{List, [], _∷_}
 use mathlib.Core.Bool.{true, false}
-use Rattle.walk.specs.Lists.{every}
-use Rattle.walk.specs.Outcome.{refused, answered}
+use Rattle.base.specs.Lists.{every}
+use Rattle.base.specs.Outcome.{refused, answered}
 use Rattle.entry_slots.specs.Names.{Lengths, lengths, inside}
 use Rattle.entry_slots.specs.Slots.{sameKey, putAt, findFrom, rows}
 use Rattle.entry_slots.specs.Table.{table, entered, lookup, addFound}

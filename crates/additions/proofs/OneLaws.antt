@@ -10,9 +10,9 @@ use borrow.Author.Tests.{ltb-true, ltb-false, eqb-true, eqb-false}
 use lib.ListN.{length, getD, set}
 use lib.Seq.{sets, set-getD, ext-getD, length-sets}
 use lib.Dec.{ltb, eqb}
-use Rattle.walk.specs.Outcome.{Outcome, refused, answered}
-use Rattle.walk.specs.Refusals.{tableFull}
-use Rattle.walk.proofs.ChoiceLaws.{cond-cases}
+use Rattle.base.specs.Outcome.{Outcome, refused, answered}
+use Rattle.base.specs.Refusals.{tableFull}
+use Rattle.base.proofs.ChoiceLaws.{cond-cases}
 use Rattle.entry_slots.specs.Names.{Lengths, inside, allInside}
 use Rattle.entry_slots.specs.Slots.{stride, slotsIn, keyAt, slotName, infoAt, slotWords, putAt, namesIn}
 use Rattle.entry_slots.specs.Table.{Table, table, find, slotFor, known, Addition, add}

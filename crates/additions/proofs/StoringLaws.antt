@@ -7,8 +7,8 @@ use native.Mathlib.Omega.{arith}
 use native.Mathlib.Nat.{add-zero}
 use borrow.Author.Tests.{lt-ltb, le-ltb}
 use lib.Dec.{ltb}
-use Rattle.walk.specs.Outcome.{Outcome, refused, answered}
-use Rattle.walk.specs.Refusals.{badState, nameOutside, tableFull}
+use Rattle.base.specs.Outcome.{Outcome, refused, answered}
+use Rattle.base.specs.Refusals.{badState, nameOutside, tableFull}
 use Rattle.entry_slots.specs.Names.{Lengths, allInside}
 use Rattle.entry_slots.specs.Slots.{slotsIn, putAt}
 use Rattle.entry_slots.specs.Table.{Table, table, find, known, Addition, addFound, add}

@@ -3,7 +3,7 @@ use Prim.Native.Nat.{ℕ, _+_, _*_, _/_}
 use mathlib.Core.List.{List}
 use mathlib.Core.Bool.{false}
 use lib.ListN.{length, getD}
-use Rattle.walk.specs.Outcome.{Outcome}
+use Rattle.base.specs.Outcome.{Outcome}
 use Rattle.mft_carver.specs.Carve.{stride}
 use Rattle.mft_carver.specs.declared.CarvedMftEntry.{CarvedMftEntry}
 use Rattle.entry_slots.specs.Names.{Lengths}

@@ -3,9 +3,9 @@ use Prim.Native.Nat.{ℕ, _/_, _%_}
 use mathlib.Core.List.{List}
 use mathlib.Core.Bool.{Bool, _||_}
 use lib.Dec.{eqb}
-use Rattle.walk.specs.Outcome.{Outcome, refused, answered, mapOutcome}
-use Rattle.walk.specs.Places.{emptyPlace, placeFrom}
-use Rattle.walk.specs.declared.Place.{Place}
+use Rattle.base.specs.Outcome.{Outcome, refused, answered, mapOutcome}
+use Rattle.base.specs.Places.{emptyPlace, placeFrom}
+use Rattle.base.specs.declared.Place.{Place}
 use Rattle.usn_record.specs.Record.{listed}
 use Rattle.usn_record.specs.declared.UsnRecord.{UsnRecord}
 use Rattle.entry_slots.specs.Table.{Addition, addition}

@@ -1,6 +1,6 @@
 -- Entries stored by one call after the other, which storing them all by one call is compared with.
 use mathlib.Core.List.{List, [], _∷_}
-use Rattle.walk.specs.Outcome.{Outcome, answered, andThen}
+use Rattle.base.specs.Outcome.{Outcome, answered, andThen}
 use Rattle.entry_slots.specs.Names.{Lengths}
 use Rattle.entry_slots.specs.Table.{Table, Addition}
 use Rattle.additions.specs.Storing.{storing}

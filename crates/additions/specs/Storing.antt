@@ -3,8 +3,8 @@ use Prim.Native.Nat.{ℕ, zero, suc, _+_}
 use mathlib.Core.List.{List, [], _∷_, map}
 use mathlib.Core.Bool.{Bool, cond, not, _||_}
 use lib.Dec.{ltb, leb}
-use Rattle.walk.specs.Outcome.{Outcome, refused, answered, mapOutcome}
-use Rattle.walk.specs.Refusals.{badState, nameOutside, tableFull}
+use Rattle.base.specs.Outcome.{Outcome, refused, answered, mapOutcome}
+use Rattle.base.specs.Refusals.{badState, nameOutside, tableFull}
 use Rattle.entry_slots.specs.Names.{Lengths, allInside}
 use Rattle.entry_slots.specs.Slots.{slotsIn, sameKey}
 use Rattle.entry_slots.specs.Table.{Table, known, Addition, addition, add}

@@ -1,16 +1,16 @@
 // What the listed records of a journal say of entries: key, parent, name and the reasons of the change.
 ghost use mathlib.Core.Path.{_≡_};
 ghost use Prim.Native.Nat.{_+_, _^_, _<_};
-ghost use Rattle.walk.specs.Places.{placeFrom};
+ghost use Rattle.base.specs.Places.{placeFrom};
 ghost use Rattle.additions.specs.Entries.{hasReason, fromJournal, entryAt, entryOr, backward, forward};
 ghost use Rattle.additions.specs.Walking.{recordsIn, lastEntry};
+use base::Place;
 use entry_slots::EntryInfo;
 use entry_slots::EntryKey;
 use entry_slots::NamePlace;
 use entry_slots::names::JOURNAL;
 use usn_record::Parsed;
 use usn_record::listed_record;
-use walk::Place;
 
 // The reasons that decide what becomes of a record.
 const FILE_CREATE: u32 = 0x100;

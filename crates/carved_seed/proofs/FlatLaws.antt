@@ -4,8 +4,8 @@ use Prim.Native.Nat.{ℕ}
 use mathlib.Core.Path.{_≡_, sym, ap, _∙_}
 use mathlib.Core.List.{List}
 use native.Mathlib.Omega.{arith}
-use Rattle.walk.specs.Lists.{flatten}
-use Rattle.walk.specs.Outcome.{Outcome}
+use Rattle.base.specs.Lists.{flatten}
+use Rattle.base.specs.Outcome.{Outcome}
 use Rattle.mft_carver.specs.Carve.{entryWords}
 use Rattle.mft_carver.specs.declared.CarvedMftEntry.{CarvedMftEntry}
 use Rattle.entry_slots.specs.Names.{lengthsOf}

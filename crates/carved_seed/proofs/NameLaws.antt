@@ -5,8 +5,8 @@ use mathlib.Core.List.{List, [], _∷_}
 use mathlib.Core.Bool.{Bool, true, false}
 use native.Mathlib.Omega.{arith}
 use native.Mathlib.Nat.{sub-zero}
-use Rattle.walk.specs.Outcome.{Outcome, refused, answered}
-use Rattle.walk.specs.Lists.{every}
+use Rattle.base.specs.Outcome.{Outcome, refused, answered}
+use Rattle.base.specs.Lists.{every}
 use Rattle.entry_slots.specs.Names.{Lengths, inside}
 use Rattle.entry_slots.specs.Slots.{rows}
 use Rattle.entry_slots.specs.Table.{Addition}

@@ -6,9 +6,9 @@ use mathlib.Core.Bool.{true, false}
 use native.Mathlib.Omega.{arith}
 use borrow.Author.Tests.{ltb-true, ltb-false, leb-true, leb-false}
 use lib.Dec.{ltb}
-use Rattle.walk.specs.Outcome.{Outcome, refused, answered}
-use Rattle.walk.specs.Refusals.{badState, nameOutside, tableFull}
-use Rattle.walk.proofs.ChoiceLaws.{cond-cases}
+use Rattle.base.specs.Outcome.{Outcome, refused, answered}
+use Rattle.base.specs.Refusals.{badState, nameOutside, tableFull}
+use Rattle.base.proofs.ChoiceLaws.{cond-cases}
 use Rattle.entry_slots.specs.Names.{Lengths, inside, allInside}
 use Rattle.entry_slots.specs.Slots.{slotsIn, rows}
 use Rattle.entry_slots.specs.Table.{Table, table, Addition, addition}

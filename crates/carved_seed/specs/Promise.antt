@@ -5,8 +5,8 @@ use mathlib.Core.Path.{_≡_}
 use mathlib.Core.List.{List, map}
 use denote.Ref.{RefT, now}
 use denote.Triple.Both.{Both}
-use Rattle.walk.specs.Lent.{Lent, before, after}
-use Rattle.walk.specs.Outcome.{Outcome, refused, answered}
+use Rattle.base.specs.Lent.{Lent, before, after}
+use Rattle.base.specs.Outcome.{Outcome, refused, answered}
 use Rattle.mft_carver.specs.declared.CarvedMftEntry.{CarvedMftEntry}
 use Rattle.entry_slots.specs.Names.{lengthsOf}
 use Rattle.entry_slots.specs.Table.{Table, table}

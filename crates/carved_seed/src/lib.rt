@@ -16,11 +16,11 @@ use crate::carved::info_of;
 use crate::carved::key_of;
 use crate::names::test_names;
 use crate::room::test_room;
+use base::BAD_STATE;
 use entry_slots::slots::STRIDE;
 use entry_table::Stored;
 use entry_table::insert_if_absent;
 use mft_carver::CarvedMftEntry;
-use walk::BAD_STATE;
 
 // What seeding answers, in numbers: the used slots, which are those that came in where it is refused, and 0 or the number of the
 // refusal.

@@ -7,10 +7,10 @@ ghost use Rattle.entry_table.specs.Promise.{outcome};
 ghost use Rattle.carved_seed.specs.Tests.{namesTested};
 use crate::carved::name_of;
 use crate::on;
+use base::NAME_OUTSIDE;
 use entry_slots::names::is_inside;
 use entry_table::Stored;
 use mft_carver::CarvedMftEntry;
-use walk::NAME_OUTSIDE;
 
 // The answer so far, or 7 where a name is outside. It stops at the first one, and looks at none where the answer is a refusal.
 pub(crate) fn test_names(

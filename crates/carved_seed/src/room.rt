@@ -11,6 +11,7 @@ ghost use Rattle.carved_seed.specs.Tests.{roomTested};
 ghost use Rattle.carved_seed.specs.Pairs.{firstPair, nextPair, isKnownAt, roomAnswer};
 use crate::carved::key_of;
 use crate::used_in;
+use base::TABLE_FULL;
 use entry_slots::EntryKey;
 use entry_slots::slots::Found;
 use entry_slots::slots::STRIDE;
@@ -18,7 +19,6 @@ use entry_slots::slots::find;
 use entry_slots::slots::same_key;
 use entry_table::Stored;
 use mft_carver::CarvedMftEntry;
-use walk::TABLE_FULL;
 
 // Where counting stands: the key of entry i is next compared with that of entry j, after n different new keys. Where j is i, all
 // before it are compared.

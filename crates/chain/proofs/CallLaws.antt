@@ -6,9 +6,9 @@ use mathlib.Core.Bool.{Bool, true, false, cond, not}
 use native.Mathlib.Omega.{arith}
 use borrow.Author.Tests.{lt-ltb, le-ltb, ltb-false, eq-eqb, ne-eqb, not-false}
 use lib.Dec.{ltb, eqb}
-use Rattle.walk.specs.Outcome.{Outcome, refused, answered, mapOutcome}
-use Rattle.walk.proofs.ChoiceLaws.{cond-cases}
-use Rattle.walk.specs.Refusals.{aboveDomain, nameOutside, badState, domain}
+use Rattle.base.specs.Outcome.{Outcome, refused, answered, mapOutcome}
+use Rattle.base.proofs.ChoiceLaws.{cond-cases}
+use Rattle.base.specs.Refusals.{aboveDomain, nameOutside, badState, domain}
 use Rattle.entry_slots.specs.Names.{Lengths, allInside}
 use Rattle.entry_slots.specs.Slots.{slotsIn, namesIn}
 use Rattle.entry_slots.specs.Table.{Table}

@@ -5,8 +5,8 @@ use mathlib.Core.List.{List, [], _∷_, _++_, append-assoc, append-nil}
 use native.Mathlib.Omega.{arith}
 use borrow.Author.Tests.{le-leb, lt-leb}
 use lib.ListN.{length}
-use Rattle.walk.specs.Lists.{flatten}
-use Rattle.walk.proofs.ListLaws.{Writing, length-flatten, writing-end}
+use Rattle.base.specs.Lists.{flatten}
+use Rattle.base.proofs.ListLaws.{Writing, length-flatten, writing-end}
 use Rattle.entry_slots.specs.declared.NamePlace.{NamePlace}
 use Rattle.chain.specs.Chain.{sourceWords, chainWords}
 use Rattle.chain.specs.Tracing.{withPlaces}

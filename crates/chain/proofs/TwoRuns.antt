@@ -7,9 +7,9 @@ use mathlib.Core.Logic.{_⊎_, inl, inr, ⊎-elim}
 use native.Mathlib.Omega.{arith}
 use lib.ListN.{length}
 use lib.Dec.{ltb}
-use Rattle.walk.specs.Outcome.{Outcome, refused, answered, mapOutcome}
-use Rattle.walk.specs.Refusals.{aboveDomain, nameOutside, badState, domain}
-use Rattle.walk.proofs.ChoiceLaws.{cond-cases}
+use Rattle.base.specs.Outcome.{Outcome, refused, answered, mapOutcome}
+use Rattle.base.specs.Refusals.{aboveDomain, nameOutside, badState, domain}
+use Rattle.base.proofs.ChoiceLaws.{cond-cases}
 use Rattle.entry_slots.specs.Names.{Lengths, lengthsOf, inside, allInside}
 use Rattle.entry_slots.specs.Slots.{slotsIn, infoAt, slotName, namesIn}
 use Rattle.entry_slots.specs.Table.{Table}

@@ -4,7 +4,7 @@ use mathlib.Core.List.{List, [], _∷_, _++_}
 use mathlib.Core.Bool.{Bool, cond}
 use lib.ListN.{length}
 use lib.Dec.{eqb}
-use Rattle.walk.specs.Lists.{flatten}
+use Rattle.base.specs.Lists.{flatten}
 use Rattle.entry_slots.specs.Table.{Table, Lookup, unknown, entered, lookup, find}
 use Rattle.entry_slots.specs.declared.EntryKey.{EntryKey}
 use Rattle.entry_slots.specs.declared.NamePlace.{NamePlace}

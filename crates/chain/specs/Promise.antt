@@ -3,8 +3,8 @@ use Prim.Native.Nat.{ℕ, _+_, _-_, _*_, _^_, _≤_, _<_}
 use mathlib.Core.Path.{_≡_}
 use mathlib.Core.List.{List, _++_}
 use lib.ListN.{length, getD}
-use Rattle.walk.specs.Lent.{Lent, before, after}
-use Rattle.walk.specs.Outcome.{Outcome, mapOutcome}
+use Rattle.base.specs.Lent.{Lent, before, after}
+use Rattle.base.specs.Outcome.{Outcome, mapOutcome}
 use Rattle.entry_slots.specs.Names.{lengthsOf}
 use Rattle.entry_slots.specs.Slots.{infoAt}
 use Rattle.entry_slots.specs.Table.{Table, table}

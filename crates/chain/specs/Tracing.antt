@@ -4,9 +4,9 @@ use mathlib.Core.List.{List}
 use mathlib.Core.Bool.{cond, not}
 use lib.ListN.{length}
 use lib.Dec.{ltb, leb}
-use Rattle.walk.specs.Outcome.{Outcome, refused, answered}
-use Rattle.walk.specs.Lists.{overwrite}
-use Rattle.walk.specs.Refusals.{aboveDomain, nameOutside, badState, domain}
+use Rattle.base.specs.Outcome.{Outcome, refused, answered}
+use Rattle.base.specs.Lists.{overwrite}
+use Rattle.base.specs.Refusals.{aboveDomain, nameOutside, badState, domain}
 use Rattle.entry_slots.specs.Names.{Lengths, allInside}
 use Rattle.entry_slots.specs.Slots.{slotsIn, namesIn}
 use Rattle.entry_slots.specs.Table.{Table}

@@ -16,10 +16,10 @@ use crate::ResolvedPath;
 use crate::steps::Way;
 use crate::steps::is_root;
 use crate::steps::step;
+use base::put_words;
 use entry_slots::EntryKey;
 use entry_slots::NamePlace;
 use entry_slots::slots::info_at;
-use walk::put_words;
 
 // The levels of a key that is asked for: one more than the depth, so that its parent has as many as the depth. No way has more slots.
 pub(crate) const LEVELS: usize = DEPTH + 1;

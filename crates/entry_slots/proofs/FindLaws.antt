@@ -7,7 +7,7 @@ use native.Mathlib.Omega.{arith}
 use native.Mathlib.Nat.{sub-zero, add-zero}
 use borrow.Author.Tests.{eq-eqb, ne-eqb, eqb-true}
 use lib.Dec.{eqb}
-use Rattle.walk.proofs.ChoiceLaws.{and-left, and-right}
+use Rattle.base.proofs.ChoiceLaws.{and-left, and-right}
 use Rattle.entry_slots.specs.Slots.{sameKey, keyAt, findFrom}
 use Rattle.entry_slots.specs.declared.EntryKey.{EntryKey}
 use Rattle.entry_slots.specs.declared.slots.Found.{Found}

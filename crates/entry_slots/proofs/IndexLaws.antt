@@ -9,7 +9,7 @@ use borrow.Author.Tests.{lt-ltb, le-ltb, eq-eqb, ne-eqb, eqb-true, eqb-false}
 use lib.ListN.{length, getD, set, replicate, length-set, length-replicate, getD-replicate}
 use lib.Seq.{ext-getD, getD-set-same, getD-set-other}
 use lib.Dec.{leb, eqb}
-use Rattle.walk.proofs.ChoiceLaws.{cond-cases}
+use Rattle.base.proofs.ChoiceLaws.{cond-cases}
 use Rattle.entry_slots.specs.Slots.{stride, rows}
 use Rattle.entry_slots.specs.Table.{Table, table}
 use Rattle.entry_slots.specs.declared.EntryKey.{EntryKey}

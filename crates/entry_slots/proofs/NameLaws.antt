@@ -7,8 +7,8 @@ use native.Mathlib.Omega.{arith}
 use native.Mathlib.Nat.{sub-zero}
 use borrow.Author.Tests.{lt-leb}
 use lib.Dec.{leb}
-use Rattle.walk.specs.Lists.{every}
-use Rattle.walk.proofs.ChoiceLaws.{and-left, and-right}
+use Rattle.base.specs.Lists.{every}
+use Rattle.base.proofs.ChoiceLaws.{and-left, and-right}
 use Rattle.entry_slots.specs.Names.{Lengths, lengthOf, inside, allInside}
 use Rattle.entry_slots.specs.Slots.{rows}
 use Rattle.entry_slots.specs.declared.NamePlace.{NamePlace}

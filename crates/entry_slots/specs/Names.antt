@@ -4,7 +4,7 @@ use mathlib.Core.List.{List}
 use mathlib.Core.Bool.{Bool, cond}
 use lib.ListN.{length}
 use lib.Dec.{leb, eqb}
-use Rattle.walk.specs.Lists.{every}
+use Rattle.base.specs.Lists.{every}
 use Rattle.entry_slots.specs.declared.NamePlace.{NamePlace}
 
 -- source 0 is the journal, any other the image

@@ -7,7 +7,7 @@ ghost use Rattle.entry_slots.specs.Table.{table, find};
 use crate::EntryInfo;
 use crate::EntryKey;
 use crate::NamePlace;
-use walk::put_words;
+use base::put_words;
 
 // The words of a slot.
 pub const STRIDE: usize = 7;

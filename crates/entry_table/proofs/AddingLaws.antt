@@ -7,7 +7,7 @@ use native.Mathlib.Omega.{arith}
 use borrow.Author.Tests.{eqb-true, eqb-false, ltb-true, ltb-false}
 use lib.ListN.{length}
 use lib.Dec.{eqb, ltb}
-use Rattle.walk.specs.Outcome.{Outcome, refused, answered}
+use Rattle.base.specs.Outcome.{Outcome, refused, answered}
 use Rattle.entry_slots.specs.Slots.{stride, slotsIn, keyAt, putAt}
 use Rattle.entry_slots.specs.Table.{Table, table, find}
 use Rattle.additions.specs.Storing.{usedAfter, wordsAfter}

@@ -7,8 +7,8 @@ use native.Mathlib.Omega.{arith}
 use borrow.Author.Tests.{leb-true}
 use lib.ListN.{length}
 use lib.Dec.{ltb, leb}
-use Rattle.walk.specs.Outcome.{Outcome, answered}
-use Rattle.walk.proofs.ChoiceLaws.{cond-cases, and-right}
+use Rattle.base.specs.Outcome.{Outcome, answered}
+use Rattle.base.proofs.ChoiceLaws.{cond-cases, and-right}
 use Rattle.entry_slots.specs.Slots.{slotsIn, rows}
 use Rattle.entry_slots.specs.Table.{Table, table, Addition}
 use Rattle.additions.specs.Storing.{adding}

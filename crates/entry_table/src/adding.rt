@@ -8,6 +8,7 @@ ghost use Rattle.entry_slots.specs.Index.{Indexed};
 ghost use Rattle.entry_slots.specs.Probing.{Probed};
 ghost use Rattle.entry_table.specs.Promise.{AddPromise, AddByPromise};
 use crate::Stored;
+use base::TABLE_FULL;
 use entry_slots::EntryInfo;
 use entry_slots::EntryKey;
 use entry_slots::links::Probe;
@@ -15,7 +16,6 @@ use entry_slots::links::link;
 use entry_slots::links::seek;
 use entry_slots::slots::STRIDE;
 use entry_slots::slots::put;
-use walk::TABLE_FULL;
 
 // Stores an entry under its key. A known one is replaced, or left alone where replace is false; a new one takes the first slot
 // that is not used. Refused, with nothing written: 6 the key is new and no slot is left.

@@ -20,15 +20,15 @@ use crate::adding::add;
 use crate::seeding::add_carved;
 use additions::carved::carved_inside;
 use additions::room::carved_fit;
+use base::BAD_STATE;
+use base::NAME_OUTSIDE;
+use base::TABLE_FULL;
 use entry_slots::EntryInfo;
 use entry_slots::EntryKey;
 use entry_slots::links::build;
 use entry_slots::links::is_enough;
 use entry_slots::names::is_inside;
 use entry_slots::slots::STRIDE;
-use walk::BAD_STATE;
-use walk::NAME_OUTSIDE;
-use walk::TABLE_FULL;
 
 // What storing answers: the number of used slots, or a refusal's number.
 pub enum Stored {

@@ -9,15 +9,15 @@ use borrow.Author.Tests.{eqb-true}
 use Rattle.usn_record.specs.Bytes.{le, leAt}
 use Rattle.usn_record.specs.Fields.{timestampOf, referenceOf, filenameOf}
 use Rattle.usn_record.specs.Record.{recordOf, parsed, listed, recordWords}
-use Rattle.walk.specs.Lists.{All}
-use Rattle.walk.specs.Walk.{walk, from}
-use Rattle.walk.proofs.ChoiceLaws.{and-left, and-right}
-use Rattle.walk.proofs.WalkLaws.{all-append}
-use Rattle.usn_journal.specs.Scan.{kindByVersion, kindOf, scanVisit, scanned}
-use Rattle.usn_journal.specs.Outcome.{scan}
+use Rattle.base.specs.Lists.{All}
+use Rattle.base.specs.Walk.{walk, from}
+use Rattle.base.proofs.ChoiceLaws.{and-left, and-right}
+use Rattle.base.proofs.WalkLaws.{all-append}
+use Rattle.usn_scan.specs.Scan.{kindByVersion, kindOf, scanVisit, scanned}
+use Rattle.usn_scan.specs.Outcome.{scan}
 use Rattle.usn_carver.specs.Carve.{judged, carverVisitAs, carving}
 use Rattle.usn_carver.specs.Carve.{carverVisit}
-use Rattle.usn_reader.specs.Journal.{stepAt, steps, toCome}
+use Rattle.usn_window.specs.Journal.{stepAt, steps, toCome}
 use Rattle.mft_attributes.specs.Filename.{replaces, keep}
 use Rattle.mft_attributes.specs.Attributes.{given, attributeAt, filenameIn}
 use Rattle.mft_attributes.specs.Attributes.{attributeVisit}

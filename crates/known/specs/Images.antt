@@ -2,7 +2,7 @@
 use Prim.Native.Nat.{ℕ}
 use mathlib.Core.List.{List, [], _∷_, _++_}
 use lib.ListN.{take}
-use Rattle.walk.specs.Lists.{flatten}
+use Rattle.base.specs.Lists.{flatten}
 use Rattle.mft_carver.specs.Settings.{standard}
 use Rattle.mft_carver.specs.Carve.{entriesIn, statsIn, entryWords, statsWords}
 use Rattle.utf16.specs.Text.{decoded}

@@ -2,15 +2,15 @@
 use Prim.Native.Nat.{ℕ}
 use mathlib.Core.List.{List, [], _∷_, _++_}
 use lib.ListN.{length, replicate}
-use Rattle.walk.specs.Lists.{flatten, placeWords}
-use Rattle.walk.specs.Outcome.{outcomeWords}
-use Rattle.walk.specs.Walk.{Visit, stop, go}
-use Rattle.usn_journal.specs.Scan.{scanVisit, scanned}
-use Rattle.usn_journal.specs.Outcome.{scanAnswer}
+use Rattle.base.specs.Lists.{flatten, placeWords}
+use Rattle.base.specs.Outcome.{outcomeWords}
+use Rattle.base.specs.Walk.{Visit, stop, go}
+use Rattle.usn_scan.specs.Scan.{scanVisit, scanned}
+use Rattle.usn_scan.specs.Outcome.{scanAnswer}
 use Rattle.usn_carver.specs.Settings.{standard}
 use Rattle.usn_carver.specs.Events.{statsWords}
 use Rattle.usn_carver.specs.Carve.{carvedPlaces, statsIn, carving}
-use Rattle.usn_reader.specs.Journal.{WindowStep, over, onto, stepAt, windowList}
+use Rattle.usn_window.specs.Journal.{WindowStep, over, onto, stepAt, windowList}
 use Rattle.known.specs.Case.{Case}
 use Rattle.known.specs.Bytes.{header, timed, recordE}
 

@@ -4,7 +4,7 @@ use mathlib.Core.List.{List, [], _∷_}
 use mathlib.Core.Bool.{cond}
 use lib.Dec.{eqb}
 use lib.IntN.{ℤ, pos, negsuc}
-use Rattle.walk.specs.Outcome.{outcomeWords}
+use Rattle.base.specs.Outcome.{outcomeWords}
 use Rattle.usn_record.specs.Layout.{Layout, v2, v3}
 use Rattle.usn_record.specs.Fields.{timestampOf}
 use Rattle.usn_record.specs.Record.{parsed, recordWords, listed}

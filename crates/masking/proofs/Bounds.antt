@@ -4,19 +4,19 @@ use mathlib.Core.Path.{_≡_, refl, sym, ap, _∙_}
 use mathlib.Core.List.{List, [], _∷_}
 use native.Mathlib.Omega.{arith}
 use lib.ListN.{length, take, drop}
-use Rattle.walk.specs.Masked.{Masked, placesOf}
-use Rattle.walk.specs.Outcome.{Outcome, refused, answered, listedBy}
-use Rattle.walk.specs.Places.{placeFrom}
-use Rattle.walk.specs.Walk.{walk, from}
-use Rattle.walk.specs.declared.Place.{Place}
-use Rattle.walk.proofs.MaskedLaws.{masked-middle}
+use Rattle.base.specs.Masked.{Masked, placesOf}
+use Rattle.base.specs.Outcome.{Outcome, refused, answered, listedBy}
+use Rattle.base.specs.Places.{placeFrom}
+use Rattle.base.specs.Walk.{walk, from}
+use Rattle.base.specs.declared.Place.{Place}
+use Rattle.base.proofs.MaskedLaws.{masked-middle}
 use Rattle.usn_record.specs.Bytes.{le, leAt, leBytes}
 use Rattle.usn_record.specs.Fields.{filenameOf}
 use Rattle.usn_record.specs.Record.{recordOf, parsed, listed}
 use Rattle.usn_record.specs.declared.UsnRecord.{UsnRecord}
 use Rattle.usn_record.specs.Sample.{sampleFixed}
-use Rattle.usn_journal.specs.Scan.{kindByVersion, kindOf, scanVisit, scanned}
-use Rattle.usn_journal.specs.Outcome.{scan}
+use Rattle.usn_scan.specs.Scan.{kindByVersion, kindOf, scanVisit, scanned}
+use Rattle.usn_scan.specs.Outcome.{scan}
 use Rattle.usn_carver.specs.Settings.{standard}
 use Rattle.usn_carver.specs.Events.{structure, rejected, carved}
 use Rattle.usn_carver.specs.Carve.{judged, carverVisitAs, carving, events, carverVisit}

@@ -6,9 +6,9 @@ use mathlib.Core.Bool.{true, not, false≢true}
 use native.Mathlib.Omega.{arith}
 use lib.Dec.{ltb}
 use borrow.Author.Tests.{eqb-true}
-use Rattle.walk.specs.Outcome.{Outcome, refused, answered}
-use Rattle.walk.specs.Refusals.{textFull}
-use Rattle.walk.proofs.ChoiceLaws.{cond-cases}
+use Rattle.base.specs.Outcome.{Outcome, refused, answered}
+use Rattle.base.specs.Refusals.{textFull}
+use Rattle.base.proofs.ChoiceLaws.{cond-cases}
 use Rattle.entry_slots.specs.Names.{Lengths, allInside}
 use Rattle.entry_slots.specs.Slots.{slotsIn}
 use Rattle.entry_slots.specs.Table.{Table, Addition}

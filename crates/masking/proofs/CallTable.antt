@@ -4,9 +4,9 @@ use Prim.Native.Nat.{ℕ}
 use mathlib.Core.Path.{_≡_, refl}
 use mathlib.Core.List.{List, [], _∷_, _++_, map}
 use lib.ListN.{replicate}
-use Rattle.walk.specs.Lists.{every}
-use Rattle.walk.specs.Outcome.{Outcome, refused, answered}
-use Rattle.walk.specs.Refusals.{badState, nameOutside, tableFull, textFull}
+use Rattle.base.specs.Lists.{every}
+use Rattle.base.specs.Outcome.{Outcome, refused, answered}
+use Rattle.base.specs.Refusals.{badState, nameOutside, tableFull, textFull}
 use Rattle.usn_record.specs.Bytes.{le, leAt}
 use Rattle.usn_record.specs.Fields.{referenceOf, filenameOf}
 use Rattle.usn_record.specs.Record.{recordOf, parsed, listed}

@@ -6,7 +6,7 @@ use mathlib.Core.List.{List, []}
 use native.Mathlib.Omega.{arith}
 use lib.ListN.{length, getD, set}
 use lib.Seq.{set-getD}
-use Rattle.walk.specs.Outcome.{Outcome, refused, answered, mapOutcome}
+use Rattle.base.specs.Outcome.{Outcome, refused, answered, mapOutcome}
 use Rattle.entry_slots.specs.Names.{lengthsOf}
 use Rattle.entry_slots.specs.Table.{Table, table}
 use Rattle.additions.proofs.CarverLaws.{seeding-carved}
@@ -23,7 +23,7 @@ use Rattle.rewind.specs.declared.Started.{Started}
 use Rattle.rewind.specs.declared.Started.the-variants as started
 use Rattle.masking.specs.Calls.{Sources, kept, State, keptAt, rewindOf, step, stored, startResult, nextResult}
 use Rattle.masking.specs.Contracts.{storedAs, InsertIs, InsertIfAbsentIs, SeedIs, SeedFromCarvedIs, startedAs, StartIs, pathOf, pathTextOf, NextIs, NextTextIs, WindowListsAreCalls}
-use Rattle.usn_reader.specs.Run.{readingOf, bufferOf}
+use Rattle.usn_window.specs.Run.{readingOf, bufferOf}
 
 -- a table that is put back leaves the tables as they were
 pub same-kept : (st : State) (i : ℕ) → set (st .tables) i (keptAt i st) ≡ st .tables

@@ -5,15 +5,15 @@ use mathlib.Core.Path.{_≡_, ap}
 use mathlib.Core.List.{List, []}
 use native.Mathlib.Omega.{arith}
 use lib.ListN.{length}
-use Rattle.walk.specs.Masked.{Masked}
-use Rattle.walk.specs.declared.Place.{Place}
-use Rattle.usn_journal.proofs.OutcomeTwoRuns.{outcome-two-runs}
-use Rattle.usn_journal.proofs.OutcomeTwoRuns.{call-two-runs as scan-call}
-use Rattle.usn_journal.specs.Outcome.{listing}
+use Rattle.base.specs.Masked.{Masked}
+use Rattle.base.specs.declared.Place.{Place}
+use Rattle.usn_scan.proofs.OutcomeTwoRuns.{outcome-two-runs}
+use Rattle.usn_scan.proofs.OutcomeTwoRuns.{call-two-runs as scan-call}
+use Rattle.usn_scan.specs.Outcome.{listing}
 use Rattle.usn_carver.specs.Settings.{standard}
 use Rattle.usn_carver.proofs.TwoRunLaws.{call-two-runs as carver-call}
-use Rattle.usn_reader.specs.Run.{givenBy, Call as WindowCall}
-use Rattle.usn_reader.proofs.TwoRuns.{window-two-runs}
+use Rattle.usn_window.specs.Run.{givenBy, Call as WindowCall}
+use Rattle.usn_window.proofs.TwoRuns.{window-two-runs}
 use Rattle.mft_carver.specs.Settings.{standard as imageStandard}
 use Rattle.mft_carver.proofs.ImageTwoRuns.{call-two-runs as image-call}
 use Rattle.chain.proofs.TwoRuns.{chain-two-runs}

@@ -5,8 +5,8 @@ use mathlib.Core.Path.{_≡_, refl, ap, _∙_}
 use mathlib.Core.List.{List, [], _∷_, map}
 use native.Mathlib.Omega.{arith}
 use lib.ListN.{length, getD}
-use Rattle.walk.specs.Lists.{flatten, placeWords, All}
-use Rattle.walk.specs.declared.Place.{Place}
+use Rattle.base.specs.Lists.{flatten, placeWords, All}
+use Rattle.base.specs.declared.Place.{Place}
 use Rattle.usn_record.specs.Record.{listed}
 use Rattle.entry_slots.specs.Slots.{rows}
 use Rattle.additions.specs.Entries.{entryAt}

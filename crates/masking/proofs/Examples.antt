@@ -6,34 +6,34 @@ use mathlib.Core.Logic.{⊎-elim}
 use native.Mathlib.Omega.{arith}
 use lib.ListN.{length, getD, replicate}
 use lib.Seq.{take-all}
-use Rattle.walk.specs.Masked.{Masked}
-use Rattle.walk.specs.Outcome.{Outcome, refused, answered}
-use Rattle.walk.specs.Refusals.{textFull}
-use Rattle.walk.specs.Walk.{walk, from}
-use Rattle.walk.specs.declared.Place.{Place}
-use Rattle.walk.proofs.MaskedLaws.{masked-middle}
+use Rattle.base.specs.Masked.{Masked}
+use Rattle.base.specs.Outcome.{Outcome, refused, answered}
+use Rattle.base.specs.Refusals.{textFull}
+use Rattle.base.specs.Walk.{walk, from}
+use Rattle.base.specs.declared.Place.{Place}
+use Rattle.base.proofs.MaskedLaws.{masked-middle}
 use Rattle.usn_record.specs.Bytes.{le, leAt, leBytes}
 use Rattle.usn_record.specs.Fields.{referenceOf, filenameOf}
 use Rattle.usn_record.specs.Names.{nameAt}
 use Rattle.usn_record.specs.Record.{recordOf, parsed, listed}
 use Rattle.usn_record.specs.Sample.{createdFixed, sampleRecord, recordE}
-use Rattle.usn_journal.specs.Scan.{kindByVersion, kindOf, scanVisit, scanned}
-use Rattle.usn_journal.specs.Outcome.{scan, scanAnswer, scanList}
+use Rattle.usn_scan.specs.Scan.{kindByVersion, kindOf, scanVisit, scanned}
+use Rattle.usn_scan.specs.Outcome.{scan, scanAnswer, scanList}
 use Rattle.usn_carver.specs.Settings.{standard}
 use Rattle.usn_carver.specs.Events.{carved}
 use Rattle.usn_carver.specs.Carve.{judged, carverVisitAs, carving, carvingList, carverVisit}
 use Rattle.usn_carver.specs.Masking.{NoOverlap, IfAnswered}
 use Rattle.usn_carver.proofs.Examples.{E-carved}
 use Rattle.window_numbers.specs.Numbers.{windowSize, wrongEnd, wrongNumbers, numbersRefusal}
-use Rattle.usn_reader.specs.Window.{wantedOf}
-use Rattle.usn_reader.specs.Rule.{namedFrom, byLength, turnOf, turns, searched}
-use Rattle.usn_reader.specs.Calls.{nextOf, giveRefusal, giveOf}
-use Rattle.usn_reader.specs.Run.{Call, next, give, giveOther, readingOf, givenBy, freshOver, shapes}
-use Rattle.usn_reader.specs.Owed.{nothing, owedReached, Delivery}
-use Rattle.usn_reader.specs.declared.Reading.{Reading}
-use Rattle.usn_reader.proofs.RunLaws.{journalReading, journalReadings, run-journal}
-use Rattle.usn_reader.proofs.CountLaws.{delivery-carries}
-use Rattle.usn_reader.proofs.TwoRuns.{fresh-filled}
+use Rattle.usn_window.specs.Window.{wantedOf}
+use Rattle.usn_window.specs.Rule.{namedFrom, byLength, turnOf, turns, searched}
+use Rattle.usn_window.specs.Calls.{nextOf, giveRefusal, giveOf}
+use Rattle.usn_window.specs.Run.{Call, next, give, giveOther, readingOf, givenBy, freshOver, shapes}
+use Rattle.usn_window.specs.Owed.{nothing, owedReached, Delivery}
+use Rattle.usn_window.specs.declared.Reading.{Reading}
+use Rattle.usn_window.proofs.RunLaws.{journalReading, journalReadings, run-journal}
+use Rattle.usn_window.proofs.CountLaws.{delivery-carries}
+use Rattle.usn_window.proofs.TwoRuns.{fresh-filled}
 use Rattle.mft_attributes.specs.Filename.{replaces, keep}
 use Rattle.mft_attributes.specs.Attributes.{given, attributeAt, filenameIn, attributeVisit}
 use Rattle.mft_carver.specs.Entry.{hasSignature, judged as entryJudged}
@@ -57,7 +57,7 @@ use Rattle.path.specs.Alike.{Alike}
 use Rattle.path_text.specs.Decoding.{placing, placeDecoding}
 use Rattle.path.specs.Written.{tracingWithText}
 use Rattle.additions.specs.Entries.{hasReason, entryFrom}
-use Rattle.walk.specs.Lists.{every}
+use Rattle.base.specs.Lists.{every}
 use Rattle.rewind_records.specs.Environment.{rewindRefusal}
 use Rattle.rewind.specs.Starting.{starting}
 use Rattle.rewind_records.specs.Turning.{turning}

@@ -4,9 +4,9 @@ use Prim.Native.Nat.{ℕ}
 use mathlib.Core.Path.{_≡_, refl, sym, _∙_}
 use mathlib.Core.List.{List, [], _∷_, _++_, map}
 use lib.ListN.{replicate, length}
-use Rattle.walk.specs.Lists.{every}
-use Rattle.walk.specs.Outcome.{refused, answered}
-use Rattle.walk.specs.Refusals.{textFull}
+use Rattle.base.specs.Lists.{every}
+use Rattle.base.specs.Outcome.{refused, answered}
+use Rattle.base.specs.Refusals.{textFull}
 use Rattle.usn_record.specs.Bytes.{le, leAt, leBytes}
 use Rattle.usn_record.specs.Fields.{referenceOf, filenameOf}
 use Rattle.usn_record.specs.Record.{recordOf, parsed, listed}
@@ -27,12 +27,12 @@ use Rattle.rewind_records.specs.Environment.{rewindRefusal}
 use Rattle.rewind_records.specs.Turning.{ended, next, turning}
 use Rattle.rewind_steps.specs.StepText.{recordText}
 use Rattle.rewind.specs.Starting.{starting}
-use Rattle.walk.specs.Masked.{Masked}
-use Rattle.walk.specs.Walk.{walk, from}
-use Rattle.walk.proofs.MaskedLaws.{masked-middle}
+use Rattle.base.specs.Masked.{Masked}
+use Rattle.base.specs.Walk.{walk, from}
+use Rattle.base.proofs.MaskedLaws.{masked-middle}
 use Rattle.usn_record.specs.Names.{nameAt}
-use Rattle.usn_journal.specs.Scan.{kindByVersion, kindOf, scanVisit, scanned}
-use Rattle.usn_journal.specs.Outcome.{scan}
+use Rattle.usn_scan.specs.Scan.{kindByVersion, kindOf, scanVisit, scanned}
+use Rattle.usn_scan.specs.Outcome.{scan}
 use Rattle.mft_attributes.specs.Filename.{replaces, keep}
 use Rattle.mft_attributes.specs.Attributes.{given, attributeAt, filenameIn, attributeVisit}
 use Rattle.mft_carver.specs.Entry.{hasSignature, judged as entryJudged}
@@ -40,8 +40,8 @@ use Rattle.mft_carver.specs.Carve.{imageVisit, carving as imageCarving}
 use Rattle.mft_carver.specs.Sample.{header as entryHeader, beforeName, last}
 use Rattle.mft_carver.specs.Settings.{standard as imageStandard}
 use Rattle.mft_carver.specs.Carve.{carvingList as imageList}
-use Rattle.walk.specs.Refusals.{listFull}
-use Rattle.usn_journal.specs.Outcome.{scanAnswer}
+use Rattle.base.specs.Refusals.{listFull}
+use Rattle.usn_scan.specs.Outcome.{scanAnswer}
 use Rattle.chain.specs.Chain.{Chain}
 use Rattle.chain.specs.Settings.{depth}
 use Rattle.chain.specs.Tracing.{tracing}

@@ -9,15 +9,15 @@ use Rattle.usn_record.specs.Names.{nameAt}
 use Rattle.usn_record.specs.Record.{recordOf, parsed, listed}
 use Rattle.usn_record.specs.Sample.{sampleRecord}
 use Rattle.window_numbers.specs.Numbers.{windowSize, wrongEnd, wrongNumbers, numbersRefusal}
-use Rattle.usn_reader.specs.Window.{wantedOf}
-use Rattle.usn_reader.specs.Rule.{namedFrom, byLength, turnOf, turns, searched}
-use Rattle.usn_reader.specs.Calls.{nextOf, giveRefusal, giveOf}
-use Rattle.usn_reader.specs.Run.{Call, next, give, readingOf, bufferOf, givenBy, readings, freshOver, shapes}
-use Rattle.usn_reader.specs.Owed.{nothing, owedReached, Delivery}
-use Rattle.usn_reader.specs.declared.Reading.{Reading}
-use Rattle.usn_reader.proofs.RunLaws.{journalReading, journalReadings, run-journal}
-use Rattle.usn_reader.proofs.CountLaws.{delivery-carries}
-use Rattle.usn_reader.proofs.TwoRuns.{fresh-filled}
+use Rattle.usn_window.specs.Window.{wantedOf}
+use Rattle.usn_window.specs.Rule.{namedFrom, byLength, turnOf, turns, searched}
+use Rattle.usn_window.specs.Calls.{nextOf, giveRefusal, giveOf}
+use Rattle.usn_window.specs.Run.{Call, next, give, readingOf, bufferOf, givenBy, readings, freshOver, shapes}
+use Rattle.usn_window.specs.Owed.{nothing, owedReached, Delivery}
+use Rattle.usn_window.specs.declared.Reading.{Reading}
+use Rattle.usn_window.proofs.RunLaws.{journalReading, journalReadings, run-journal}
+use Rattle.usn_window.proofs.CountLaws.{delivery-carries}
+use Rattle.usn_window.proofs.TwoRuns.{fresh-filled}
 use Rattle.mft_carver.specs.Sample.{abc}
 use Rattle.masking.specs.Demand.{journalNames, window, windowPlaces, Share}
 use Rattle.masking.proofs.Demand.{names-decide-nothing}

@@ -6,9 +6,9 @@ use mathlib.Core.List.{List, [], _∷_}
 use mathlib.Core.Bool.{true, false}
 use mathlib.Core.Logic.{⊎-elim}
 use lib.Dec.{eqb}
-use Rattle.walk.specs.Outcome.{Outcome, refused, answered}
-use Rattle.walk.specs.Refusals.{textFull}
-use Rattle.walk.proofs.ChoiceLaws.{cond-cases}
+use Rattle.base.specs.Outcome.{Outcome, refused, answered}
+use Rattle.base.specs.Refusals.{textFull}
+use Rattle.base.proofs.ChoiceLaws.{cond-cases}
 use Rattle.additions.specs.Storing.{inserting}
 use Rattle.additions.specs.Carved.{seeding}
 use Rattle.chain.specs.Settings.{depth}

@@ -10,8 +10,8 @@ use lib.ListN.{length, set, length-append}
 use lib.Dec.{leb, eqb}
 use borrow.Author.Tests.{leb-true, eqb-true, eqb-false}
 use lib.Seq.{set-set, getD-set-same}
-use Rattle.walk.specs.Outcome.{Outcome, refused, answered}
-use Rattle.walk.proofs.ChoiceLaws.{cond-cases}
+use Rattle.base.specs.Outcome.{Outcome, refused, answered}
+use Rattle.base.proofs.ChoiceLaws.{cond-cases}
 use Rattle.entry_slots.specs.Table.{table}
 use Rattle.rewind_records.specs.Environment.{environmentOf, rewindRefusal}
 use Rattle.rewind_records.specs.Turning.{Next, ended, next}

@@ -3,8 +3,8 @@ use Prim.Native.Nat.{ℕ}
 use mathlib.Core.Path.{refl}
 use mathlib.Core.List.{List, [], _∷_, _++_}
 use lib.ListN.{replicate}
-use Rattle.walk.specs.Masked.{Masked}
-use Rattle.walk.specs.declared.Place.{Place}
+use Rattle.base.specs.Masked.{Masked}
+use Rattle.base.specs.declared.Place.{Place}
 use Rattle.usn_record.specs.Bytes.{leBytes}
 use Rattle.usn_record.specs.Sample.{header, reference}
 use Rattle.mft_carver.specs.Sample.{header as entryHeader, beforeName, last}

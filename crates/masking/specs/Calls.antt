@@ -6,10 +6,10 @@ use mathlib.Core.List.{List, [], _∷_, map}
 use mathlib.Core.Bool.{Bool, true, false, cond}
 use lib.ListN.{getD, set}
 use lib.Dec.{eqb}
-use Rattle.walk.specs.Outcome.{Outcome, refused, answered, mapOutcome}
-use Rattle.walk.specs.Lists.{flatten, placeWords}
-use Rattle.walk.specs.Refusals.{textFull}
-use Rattle.walk.specs.declared.Place.{Place}
+use Rattle.base.specs.Outcome.{Outcome, refused, answered, mapOutcome}
+use Rattle.base.specs.Lists.{flatten, placeWords}
+use Rattle.base.specs.Refusals.{textFull}
+use Rattle.base.specs.declared.Place.{Place}
 use Rattle.entry_slots.specs.Names.{lengthsOf}
 use Rattle.entry_slots.specs.Table.{Table, table}
 use Rattle.additions.specs.Storing.{inserting, usedAfter, wordsAfter as storedWords}

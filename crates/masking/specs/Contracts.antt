@@ -6,8 +6,8 @@ use mathlib.Core.Path.{_≡_}
 use mathlib.Core.List.{List, [], _∷_, map}
 use mathlib.Core.Bool.{true, false}
 use lib.ListN.{length, getD, set}
-use Rattle.walk.specs.Outcome.{Outcome, refused, answered, mapOutcome}
-use Rattle.walk.specs.Lists.{flatten}
+use Rattle.base.specs.Outcome.{Outcome, refused, answered, mapOutcome}
+use Rattle.base.specs.Lists.{flatten}
 use Rattle.mft_carver.specs.Carve.{entryWords}
 use Rattle.mft_carver.specs.declared.CarvedMftEntry.{CarvedMftEntry}
 use Rattle.entry_slots.specs.Names.{Lengths, lengthsOf}
@@ -35,11 +35,11 @@ use Rattle.rewind.specs.declared.Started.{Started}
 use Rattle.rewind.specs.declared.Started.the-variants as started
 use Rattle.rewind.specs.declared.ChainStep.{ChainStep}
 use Rattle.rewind.specs.declared.PathStep.{PathStep}
-use Rattle.usn_reader.specs.Calls.{nextOf as nextWith}
-use Rattle.usn_reader.specs.Run.{readingOf, stateAfter, State as WindowState, Call as WindowCall, next as asks, give as gives, nextOther as asksOther, giveOther as givesOther}
-use Rattle.usn_reader.specs.Promise.{Gives}
-use Rattle.usn_reader.specs.Rule.{bufferReads}
-use Rattle.usn_reader.specs.declared.Reading.{Reading}
+use Rattle.usn_window.specs.Calls.{nextOf as nextWith}
+use Rattle.usn_window.specs.Run.{readingOf, stateAfter, State as WindowState, Call as WindowCall, next as asks, give as gives, nextOther as asksOther, giveOther as givesOther}
+use Rattle.usn_window.specs.Promise.{Gives}
+use Rattle.usn_window.specs.Rule.{bufferReads}
+use Rattle.usn_window.specs.declared.Reading.{Reading}
 use Rattle.rewind_run.specs.Running.{runOutcome}
 use Rattle.rewind_run.specs.Calls.{callRooms}
 use Rattle.rewind_run.specs.Promise.{RunsIndexed}

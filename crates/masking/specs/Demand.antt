@@ -7,20 +7,20 @@ use mathlib.Core.Path.{_≡_}
 use mathlib.Core.List.{List}
 use mathlib.Core.Bool.{true}
 use lib.ListN.{length}
-use Rattle.walk.specs.Outcome.{refused}
-use Rattle.walk.specs.Refusals.{textFull}
-use Rattle.walk.specs.Lists.{All}
-use Rattle.walk.specs.Masked.{Masked, placesOf}
-use Rattle.walk.specs.declared.Place.{Place}
+use Rattle.base.specs.Outcome.{refused}
+use Rattle.base.specs.Refusals.{textFull}
+use Rattle.base.specs.Lists.{All}
+use Rattle.base.specs.Masked.{Masked, placesOf}
+use Rattle.base.specs.declared.Place.{Place}
 use Rattle.usn_record.specs.Record.{listed}
 use Rattle.usn_record.specs.Names.{nameAt}
-use Rattle.usn_journal.specs.Outcome.{scan, scanAnswer, scanList, listing}
+use Rattle.usn_scan.specs.Outcome.{scan, scanAnswer, scanList, listing}
 use Rattle.usn_carver.specs.Settings.{standard}
 use Rattle.usn_carver.specs.Carve.{events, carving, carvingList}
 use Rattle.usn_carver.specs.Masking.{NoOverlap, IfAnswered, carvedRecords}
 use Rattle.window_numbers.specs.Numbers.{windowSize}
-use Rattle.usn_reader.specs.Run.{readings, givenBy, freshOver, shapes, Call as WindowCall}
-use Rattle.usn_reader.specs.Owed.{Delivery}
+use Rattle.usn_window.specs.Run.{readings, givenBy, freshOver, shapes, Call as WindowCall}
+use Rattle.usn_window.specs.Owed.{Delivery}
 use Rattle.mft_carver.specs.Settings.{standard as imageStandard}
 use Rattle.mft_carver.specs.Carve.{carving as imageCarving, carvingList as imageList}
 use Rattle.mft_carver.specs.Masking.{carvedEntries, carvedNames}

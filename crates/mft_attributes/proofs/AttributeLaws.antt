@@ -8,8 +8,8 @@ use native.Mathlib.Omega.{arith}
 use lib.ListN.{length}
 use lib.Dec.{ltb, leb, eqb}
 use borrow.Author.Tests.{lt-ltb, le-ltb, ltb-true, ltb-false, le-leb, lt-leb, leb-true, ne-eqb, eq-eqb}
-use Rattle.walk.specs.Walk.{Visit, stop, go}
-use Rattle.walk.proofs.ChoiceLaws.{and-false}
+use Rattle.base.specs.Walk.{Visit, stop, go}
+use Rattle.base.proofs.ChoiceLaws.{and-false}
 use Rattle.usn_record.specs.Bytes.{leAt}
 use Rattle.usn_record.specs.Fields.{referenceOf}
 use Rattle.usn_record.specs.declared.fields.Reference.{Reference}

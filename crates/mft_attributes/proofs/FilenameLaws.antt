@@ -7,7 +7,7 @@ use mathlib.Core.Bool.{Bool, true, false, not}
 use native.Mathlib.Omega.{arith}
 use lib.Dec.{eqb}
 use borrow.Author.Tests.{ne-eqb}
-use Rattle.walk.specs.Walk.{Visit, goingOn, walk}
+use Rattle.base.specs.Walk.{Visit, goingOn, walk}
 use Rattle.mft_attributes.specs.Filename.{win32, dos, win32AndDos, replaces, Attribute, other, named, keep, keepAll}
 use Rattle.mft_attributes.specs.Attributes.{attributeVisit, attributesIn, filenameIn}
 use Rattle.mft_attributes.specs.Step.{attributeOf}

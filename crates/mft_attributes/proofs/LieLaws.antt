@@ -7,10 +7,10 @@ use native.Mathlib.Omega.{arith}
 use lib.ListN.{length}
 use lib.Dec.{ltb, leb, eqb}
 use borrow.Author.Tests.{ltb-true, ltb-false, leb-true}
-use Rattle.walk.specs.Lists.{All}
-use Rattle.walk.specs.Walk.{Visit, stop, go, goingOn, walk}
-use Rattle.walk.proofs.ChoiceLaws.{cond-cases, and-left, and-right, or-left, or-right}
-use Rattle.walk.proofs.WalkLaws.{Forward}
+use Rattle.base.specs.Lists.{All}
+use Rattle.base.specs.Walk.{Visit, stop, go, goingOn, walk}
+use Rattle.base.proofs.ChoiceLaws.{cond-cases, and-left, and-right, or-left, or-right}
+use Rattle.base.proofs.WalkLaws.{Forward}
 use Rattle.usn_record.specs.Bytes.{leAt}
 use Rattle.mft_attributes.specs.Filename.{replaces, Attribute, other, named, keep, keepAll}
 use Rattle.mft_attributes.specs.Attributes.{endMarker, fixed, AttributeHeader, attributeHeaderAt, Content, contentAt, isFilename, given, attributeAt, attributeVisit, attributesIn, filenameIn}

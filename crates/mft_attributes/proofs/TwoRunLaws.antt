@@ -10,14 +10,14 @@ use native.Mathlib.Omega.{arith}
 use lib.ListN.{length, getD}
 use lib.Dec.{ltb, leb, eqb}
 use borrow.Author.Tests.{leb-true, leb-false}
-use Rattle.walk.specs.Lists.{All}
-use Rattle.walk.specs.Agree.{Agree}
-use Rattle.walk.specs.Masked.{Within, Apart, placesOf}
-use Rattle.walk.specs.Walk.{Visit, stop, go, goingOn, walk}
-use Rattle.walk.specs.declared.Place.{Place}
-use Rattle.walk.proofs.ChoiceLaws.{cond-cases, cond-two}
-use Rattle.walk.proofs.MaskedLaws.{apart-append, apart-all, Same, Before, walk-same}
-use Rattle.walk.proofs.WalkLaws.{Forward}
+use Rattle.base.specs.Lists.{All}
+use Rattle.base.specs.Agree.{Agree}
+use Rattle.base.specs.Masked.{Within, Apart, placesOf}
+use Rattle.base.specs.Walk.{Visit, stop, go, goingOn, walk}
+use Rattle.base.specs.declared.Place.{Place}
+use Rattle.base.proofs.ChoiceLaws.{cond-cases, cond-two}
+use Rattle.base.proofs.MaskedLaws.{apart-append, apart-all, Same, Before, walk-same}
+use Rattle.base.proofs.WalkLaws.{Forward}
 use Rattle.usn_record.specs.Bytes.{leAt}
 use Rattle.usn_record.proofs.ByteLaws.{read-agree}
 use Rattle.mft_attributes.specs.Filename.{replaces, Attribute, other, named, keep, keepAll}

@@ -4,7 +4,7 @@ use mathlib.Core.List.{List, [], _∷_}
 use mathlib.Core.Bool.{Bool, true, cond, _&&_, _||_}
 use lib.ListN.{length}
 use lib.Dec.{ltb, leb, eqb}
-use Rattle.walk.specs.Walk.{Visit, stop, go, walk}
+use Rattle.base.specs.Walk.{Visit, stop, go, walk}
 use Rattle.usn_record.specs.Bytes.{leAt}
 use Rattle.usn_record.specs.Fields.{referenceOf}
 use Rattle.mft_attributes.specs.Filename.{Attribute, other, named, keepAll}

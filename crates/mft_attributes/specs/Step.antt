@@ -1,6 +1,6 @@
 -- What the answers of the inner functions say.
 use mathlib.Core.List.{List, [], _∷_}
-use Rattle.walk.specs.Walk.{Visit, stop, go}
+use Rattle.base.specs.Walk.{Visit, stop, go}
 use Rattle.mft_attributes.specs.Filename.{Attribute, other, named}
 use Rattle.mft_attributes.specs.declared.attributes.AttributeStep.{AttributeStep}
 use Rattle.mft_attributes.specs.declared.attributes.AttributeStep.the-variants.{End, Other, Named}

@@ -2,7 +2,7 @@
 ghost use mathlib.Core.Path.{_≡_};
 ghost use Prim.Native.Nat.{_+_, _≤_};
 ghost use lib.ListN.{length};
-ghost use Rattle.walk.specs.Walk.{go};
+ghost use Rattle.base.specs.Walk.{go};
 ghost use mathlib.Core.List.{[], _∷_};
 ghost use Rattle.usn_record.specs.Bytes.{leAt};
 ghost use Rattle.mft_attributes.specs.Attributes.{fileName, attributeHeaderAt, attributeAt, attributeVisit, filenameIn};
@@ -10,12 +10,12 @@ ghost use Rattle.mft_attributes.specs.Step.{attributeOf};
 use crate::filename::Filename;
 use crate::filename::Kept;
 use crate::filename::keep_better;
+use base::Place;
 use usn_record::bytes::byte_at;
 use usn_record::bytes::le_u16;
 use usn_record::bytes::le_u32;
 use usn_record::bytes::le_u64;
 use usn_record::fields::parts_of;
-use walk::Place;
 
 // The type of a $FILE_NAME attribute.
 const ATTR_FILE_NAME: u32 = 0x30;

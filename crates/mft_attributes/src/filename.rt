@@ -1,8 +1,8 @@
 // The names of an entry, and which of them is kept.
 ghost use mathlib.Core.Path.{_≡_};
 ghost use Rattle.mft_attributes.specs.Filename.{replaces, keep};
+use base::Place;
 use usn_record::fields::Reference;
-use walk::Place;
 
 // Namespace Win32, preferred for display.
 const NS_WIN32: u8 = 1;

@@ -7,8 +7,8 @@ use native.Mathlib.Omega.{arith}
 use lib.ListN.{length}
 use lib.Dec.{eqb}
 use borrow.Author.Tests.{lt-ltb, le-ltb, ne-eqb}
-use Rattle.walk.specs.Places.{placeFrom}
-use Rattle.walk.specs.declared.Place.{Place}
+use Rattle.base.specs.Places.{placeFrom}
+use Rattle.base.specs.declared.Place.{Place}
 use Rattle.usn_record.specs.Bytes.{leAt}
 use Rattle.mft_carver.specs.declared.Settings.{Settings}
 use Rattle.mft_attributes.specs.Attributes.{fixed, filenameIn}

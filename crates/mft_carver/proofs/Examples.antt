@@ -5,10 +5,10 @@ use mathlib.Core.Path.{_≡_, refl, ap}
 use mathlib.Core.List.{List, [], _∷_, _++_}
 use native.Mathlib.Omega.{arith}
 use lib.ListN.{getD, take, replicate}
-use Rattle.walk.specs.Masked.{Masked}
-use Rattle.walk.specs.Outcome.{answered}
-use Rattle.walk.specs.Walk.{walk, from}
-use Rattle.walk.proofs.MaskedLaws.{masked-middle}
+use Rattle.base.specs.Masked.{Masked}
+use Rattle.base.specs.Outcome.{answered}
+use Rattle.base.specs.Walk.{walk, from}
+use Rattle.base.proofs.MaskedLaws.{masked-middle}
 use Rattle.usn_record.specs.Bytes.{le, leAt, leBytes}
 use Rattle.usn_record.specs.Fields.{referenceOf}
 use Rattle.mft_carver.specs.Settings.{standard}

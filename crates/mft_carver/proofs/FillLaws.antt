@@ -7,9 +7,9 @@ use mir.Val.{boolByte}
 use native.Mathlib.Omega.{arith}
 use lib.ListN.{length}
 use lib.Seq.{sets}
-use Rattle.walk.specs.Walk.{go}
-use Rattle.walk.proofs.ListLaws.{Writing, writing-start, writing-skip, writing-room, writing-row, writing-end}
-use Rattle.walk.proofs.WalkLaws.{Left}
+use Rattle.base.specs.Walk.{go}
+use Rattle.base.proofs.ListLaws.{Writing, writing-start, writing-skip, writing-room, writing-row, writing-end}
+use Rattle.base.proofs.WalkLaws.{Left}
 use Rattle.mft_carver.specs.declared.Settings.{Settings}
 use Rattle.mft_carver.specs.Entry.{Event, rejected, carved}
 use Rattle.mft_carver.specs.Carve.{imageVisit, eventsFrom, events, entries, rejections, statsOf, entriesIn, statsIn, stride, flag, entryWords}

@@ -8,16 +8,16 @@ use native.Mathlib.Omega.{arith}
 use lib.ListN.{length, getD, length-take, length-drop}
 use lib.Dec.{ltb, eqb}
 use borrow.Author.Tests.{ltb-true, ltb-false}
-use Rattle.walk.specs.Agree.{Agree}
-use Rattle.walk.specs.Masked.{Within, Apart, Masked, placesOf}
-use Rattle.walk.specs.Outcome.{Outcome, refused, answered, listedBy}
-use Rattle.walk.specs.Places.{part, placeFrom}
-use Rattle.walk.specs.Walk.{Visit, stop, go, goingOn, walk, from}
-use Rattle.walk.specs.declared.Place.{Place}
-use Rattle.walk.proofs.AgreeLaws.{part-in, part-out}
-use Rattle.walk.proofs.ChoiceLaws.{cond-cases, cond-two}
-use Rattle.walk.proofs.MaskedLaws.{apart-append, places-append, Same, Before, walk-same, masked-none}
-use Rattle.walk.proofs.WalkLaws.{Forward}
+use Rattle.base.specs.Agree.{Agree}
+use Rattle.base.specs.Masked.{Within, Apart, Masked, placesOf}
+use Rattle.base.specs.Outcome.{Outcome, refused, answered, listedBy}
+use Rattle.base.specs.Places.{part, placeFrom}
+use Rattle.base.specs.Walk.{Visit, stop, go, goingOn, walk, from}
+use Rattle.base.specs.declared.Place.{Place}
+use Rattle.base.proofs.AgreeLaws.{part-in, part-out}
+use Rattle.base.proofs.ChoiceLaws.{cond-cases, cond-two}
+use Rattle.base.proofs.MaskedLaws.{apart-append, places-append, Same, Before, walk-same, masked-none}
+use Rattle.base.proofs.WalkLaws.{Forward}
 use Rattle.usn_record.specs.Bytes.{leAt}
 use Rattle.usn_record.proofs.ByteLaws.{read-agree}
 use Rattle.mft_carver.specs.declared.Settings.{Settings}

@@ -8,10 +8,10 @@ use native.Mathlib.Nat.{le-div-iff-mul-le, mul-comm, mul-zero, mul-one, zero-add
 use lib.ListN.{length, take, drop}
 use lib.Dec.{ltb}
 use borrow.Author.Tests.{lt-ltb, le-ltb, ltb-true, ltb-false}
-use Rattle.walk.specs.Walk.{Visit, stop, go, from}
-use Rattle.walk.proofs.AgreeLaws.{part-lent}
-use Rattle.walk.proofs.ChoiceLaws.{cond-cases}
-use Rattle.walk.proofs.WalkLaws.{Forward, Costs, walk-bound, Left, left}
+use Rattle.base.specs.Walk.{Visit, stop, go, from}
+use Rattle.base.proofs.AgreeLaws.{part-lent}
+use Rattle.base.proofs.ChoiceLaws.{cond-cases}
+use Rattle.base.proofs.WalkLaws.{Forward, Costs, walk-bound, Left, left}
 use Rattle.mft_carver.specs.declared.Settings.{Settings}
 use Rattle.mft_carver.specs.Entry.{hasSignature, Event, rejected, carved, judged}
 use Rattle.mft_carver.specs.Carve.{entryBytes, eventsAt, imageVisit, events, entries, rejections, entriesIn}

@@ -4,11 +4,11 @@ use mathlib.Core.List.{List, [], _∷_}
 use mathlib.Core.Bool.{Bool, cond}
 use lib.ListN.{length}
 use lib.Dec.{ltb}
-use Rattle.walk.specs.Outcome.{Outcome, refused, answered}
-use Rattle.walk.specs.Lists.{flatten, listAfter}
-use Rattle.walk.specs.Places.{part}
-use Rattle.walk.specs.Refusals.{aboveDomain, listFull, domain}
-use Rattle.walk.specs.Walk.{Visit, stop, go, from}
+use Rattle.base.specs.Outcome.{Outcome, refused, answered}
+use Rattle.base.specs.Lists.{flatten, listAfter}
+use Rattle.base.specs.Places.{part}
+use Rattle.base.specs.Refusals.{aboveDomain, listFull, domain}
+use Rattle.base.specs.Walk.{Visit, stop, go, from}
 use Rattle.mft_carver.specs.declared.Settings.{Settings}
 use Rattle.mft_carver.specs.Entry.{hasSignature, Event, rejected, carved, judged}
 use Rattle.mft_carver.specs.declared.CarvedMftEntry.{CarvedMftEntry}

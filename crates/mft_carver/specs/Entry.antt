@@ -3,7 +3,7 @@ use Prim.Native.Nat.{ℕ, _+_, _/_, _%_}
 use mathlib.Core.List.{List, [], _∷_}
 use mathlib.Core.Bool.{Bool, true, cond, _&&_, _||_}
 use lib.Dec.{ltb, eqb}
-use Rattle.walk.specs.Places.{placeFrom}
+use Rattle.base.specs.Places.{placeFrom}
 use Rattle.usn_record.specs.Bytes.{leAt}
 use Rattle.mft_carver.specs.declared.Settings.{Settings}
 use Rattle.mft_attributes.specs.Attributes.{filenameIn}

@@ -1,9 +1,9 @@
 -- What the second of two carving runs may replace: the names of the entries that the first one lists, wherever they lie.
 use Prim.Native.Nat.{ℕ}
 use mathlib.Core.List.{List, [], _∷_}
-use Rattle.walk.specs.Masked.{placesOf}
-use Rattle.walk.specs.Outcome.{listedBy}
-use Rattle.walk.specs.declared.Place.{Place}
+use Rattle.base.specs.Masked.{placesOf}
+use Rattle.base.specs.Outcome.{listedBy}
+use Rattle.base.specs.declared.Place.{Place}
 use Rattle.mft_carver.specs.declared.Settings.{Settings}
 use Rattle.mft_carver.specs.Carve.{entriesIn, carving}
 use Rattle.mft_carver.specs.declared.CarvedMftEntry.{CarvedMftEntry}

@@ -3,9 +3,9 @@ use Prim.Native.Nat.{ℕ, _/_, _≤_}
 use mathlib.Core.Path.{_≡_}
 use mathlib.Core.List.{List}
 use lib.ListN.{length}
-use Rattle.walk.specs.Lent.{Lent, before, after}
-use Rattle.walk.specs.Lists.{flatten, overwrite}
-use Rattle.walk.specs.Refusals.{domain}
+use Rattle.base.specs.Lent.{Lent, before, after}
+use Rattle.base.specs.Lists.{flatten, overwrite}
+use Rattle.base.specs.Refusals.{domain}
 use Rattle.mft_carver.specs.declared.Settings.{Settings}
 use Rattle.mft_carver.specs.Carve.{outcome, carving, carvingList, entriesIn, statsIn, stride, entryWords}
 use Rattle.mft_carver.specs.declared.MftCarving.{MftCarving}

@@ -1,7 +1,7 @@
 -- What the answers of the inner functions say.
 use Prim.Native.Nat.{ℕ}
 use mathlib.Core.List.{List, [], _∷_}
-use Rattle.walk.specs.Walk.{Visit, stop, go}
+use Rattle.base.specs.Walk.{Visit, stop, go}
 use Rattle.mft_carver.specs.Entry.{Event, rejected, carved}
 use Rattle.mft_carver.specs.declared.entry.Candidate.{Candidate}
 use Rattle.mft_carver.specs.declared.entry.Candidate.the-variants.{Rejected as RejectedCandidate, Carved as CarvedCandidate}

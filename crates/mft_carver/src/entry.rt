@@ -2,18 +2,18 @@
 ghost use mathlib.Core.Path.{_≡_};
 ghost use Prim.Native.Nat.{_+_, _≤_};
 ghost use lib.ListN.{length};
-ghost use Rattle.walk.specs.Refusals.{domain};
+ghost use Rattle.base.specs.Refusals.{domain};
 ghost use Rattle.mft_carver.specs.Entry.{hasSignature, judged};
 ghost use Rattle.mft_carver.specs.Step.{eventOf};
 use crate::CarvedMftEntry;
 use crate::Settings;
+use base::Place;
 use mft_attributes::attributes::best_filename;
 use mft_attributes::filename::Filename;
 use mft_attributes::filename::Kept;
 use usn_record::bytes::byte_at;
 use usn_record::bytes::le_u16;
 use usn_record::bytes::le_u32;
-use walk::Place;
 
 // What becomes of a candidate.
 pub enum Candidate {

@@ -4,7 +4,7 @@ ghost use mathlib.Core.List.{[]};
 ghost use Prim.Native.Nat.{_≤_};
 ghost use lib.ListN.{length};
 ghost use lib.Dec.{leb};
-ghost use Rattle.walk.specs.Refusals.{domain};
+ghost use Rattle.base.specs.Refusals.{domain};
 ghost use Rattle.mft_carver.specs.Carve.{statsOf, entriesIn, entryWords};
 ghost use Rattle.mft_carver.specs.Promise.{FillAsks, FillPromise};
 use crate::CarvedMftEntry;
@@ -13,7 +13,7 @@ use crate::MftCarvingStats;
 use crate::Settings;
 use crate::step::CarveStep;
 use crate::step::carve_step;
-use walk::put_words;
+use base::put_words;
 
 // Whether the entries to be carved are no more than room. None is counted where room is enough for an image of that length full
 // of entries.

@@ -11,10 +11,10 @@ ghost use Rattle.mft_carver.specs.Settings.{standard};
 ghost use Rattle.mft_carver.specs.Promise.{CarvePromise};
 use crate::fill::fill_list;
 use crate::fill::has_room;
-use walk::ABOVE_DOMAIN;
-use walk::DOMAIN;
-use walk::LIST_FULL;
-use walk::Place;
+use base::ABOVE_DOMAIN;
+use base::DOMAIN;
+use base::LIST_FULL;
+use base::Place;
 
 // The bytes of an MFT entry.
 const MFT_ENTRY_SIZE: usize = 1024;

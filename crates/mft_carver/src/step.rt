@@ -2,7 +2,7 @@
 ghost use mathlib.Core.Path.{_≡_};
 ghost use Prim.Native.Nat.{_≤_};
 ghost use lib.ListN.{length};
-ghost use Rattle.walk.specs.Refusals.{domain};
+ghost use Rattle.base.specs.Refusals.{domain};
 ghost use Rattle.mft_carver.specs.Carve.{imageVisit};
 ghost use Rattle.mft_carver.specs.Step.{imageVisitOf};
 use crate::CarvedMftEntry;

@@ -8,7 +8,7 @@ use borrow.Author.Tests.{le-leb, lt-leb, leb-true, leb-false, eqb-true, eqb-fals
 use lib.ListN.{length, length-append, getD}
 use lib.Dec.{leb, eqb}
 use Rattle.utf16.proofs.TextLaws.{name-most}
-use Rattle.walk.specs.Refusals.{domain}
+use Rattle.base.specs.Refusals.{domain}
 use Rattle.entry_slots.specs.Names.{lengthsOf, inside}
 use Rattle.entry_slots.specs.Slots.{slotName}
 use Rattle.entry_slots.specs.declared.NamePlace.{NamePlace}

@@ -1,8 +1,8 @@
 -- Paths of small tables, computed: the root, an unknown key, a folder that is its own parent, and text that just fits. Assumes nothing.
 use mathlib.Core.Path.{_≡_, refl}
 use mathlib.Core.List.{[], _∷_, _++_}
-use Rattle.walk.specs.Lists.{every}
-use Rattle.walk.specs.Refusals.{textFull}
+use Rattle.base.specs.Lists.{every}
+use Rattle.base.specs.Refusals.{textFull}
 use Rattle.usn_record.specs.Bytes.{le, leAt}
 use Rattle.utf16.specs.Utf16.{alone, codePoints, unitsAt}
 use Rattle.utf16.specs.Utf8.{utf8}

@@ -10,8 +10,8 @@ use borrow.Author.Tests.{ne-eqb, eqb-true, eqb-false}
 use lib.ListN.{length, getD, List·getD-append}
 use lib.Seq.{getD-append-add}
 use lib.Dec.{eqb}
-use Rattle.walk.specs.Lists.{every}
-use Rattle.walk.specs.Outcome.{Outcome, answered, outcomeWords}
+use Rattle.base.specs.Lists.{every}
+use Rattle.base.specs.Outcome.{Outcome, answered, outcomeWords}
 use Rattle.usn_record.specs.Bytes.{le, leAt}
 use Rattle.utf16.specs.Utf16.{alone, codePoints, unitsAt}
 use Rattle.utf16.specs.Utf8.{utf8}

@@ -8,8 +8,8 @@ use borrow.Author.Tests.{leb-true, leb-false, lt-ltb, le-ltb}
 use lib.ListN.{length, length-append}
 use lib.Seq.{sets, length-sets}
 use lib.Dec.{leb}
-use Rattle.walk.specs.Refusals.{domain}
-use Rattle.walk.proofs.ListLaws.{sets-append}
+use Rattle.base.specs.Refusals.{domain}
+use Rattle.base.proofs.ListLaws.{sets-append}
 use Rattle.utf16.proofs.PutLaws.{Put}
 use Rattle.entry_slots.specs.Names.{lengthsOf, allInside}
 use Rattle.entry_slots.specs.Slots.{stride, slotName, namesIn}

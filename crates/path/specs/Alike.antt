@@ -1,8 +1,8 @@
 -- What two runs of a call with text have in common: all but the text, and whether it fits.
 use mathlib.Core.Path.{_≡_}
 use mathlib.Core.Logic.{_⊎_}
-use Rattle.walk.specs.Outcome.{Outcome, refused, answered}
-use Rattle.walk.specs.Refusals.{textFull}
+use Rattle.base.specs.Outcome.{Outcome, refused, answered}
+use Rattle.base.specs.Refusals.{textFull}
 
 -- an outcome with text beside the one without: the same, or 8 where the one without is answered
 abbrev pub Beside : {A : Type 0} → Outcome A → Outcome A → Type 0

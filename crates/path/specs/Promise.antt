@@ -6,10 +6,10 @@ use mathlib.Core.List.{List}
 use mathlib.Core.Bool.{true, cond}
 use lib.ListN.{length, getD}
 use lib.Seq.{sets}
-use Rattle.walk.specs.Lent.{Lent, before, after}
-use Rattle.walk.specs.Lists.{listAfter}
-use Rattle.walk.specs.Outcome.{Outcome, mapOutcome}
-use Rattle.walk.specs.Refusals.{domain}
+use Rattle.base.specs.Lent.{Lent, before, after}
+use Rattle.base.specs.Lists.{listAfter}
+use Rattle.base.specs.Outcome.{Outcome, mapOutcome}
+use Rattle.base.specs.Refusals.{domain}
 use Rattle.entry_slots.specs.Names.{lengthsOf, inside}
 use Rattle.entry_slots.specs.Slots.{slotName}
 use Rattle.entry_slots.specs.Table.{Table, table}

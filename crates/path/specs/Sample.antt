@@ -1,7 +1,7 @@
 -- Tables, for worked examples. Every name in them is a, the one unit of the journal.
 use Prim.Native.Nat.{ℕ, zero, suc, _+_}
 use mathlib.Core.List.{List, [], _∷_, _++_}
-use Rattle.walk.specs.Outcome.{outcomeWords}
+use Rattle.base.specs.Outcome.{outcomeWords}
 use Rattle.entry_slots.specs.Slots.{slotWords}
 use Rattle.entry_slots.specs.Table.{Table, table}
 use Rattle.entry_slots.specs.declared.EntryKey.{EntryKey}

@@ -2,7 +2,7 @@
 use Prim.Native.Nat.{ℕ}
 use mathlib.Core.List.{List}
 use lib.ListN.{length}
-use Rattle.walk.specs.Outcome.{Outcome, refused, answered}
+use Rattle.base.specs.Outcome.{Outcome, refused, answered}
 use Rattle.entry_slots.specs.Names.{lengthsOf}
 use Rattle.entry_slots.specs.Table.{Table}
 use Rattle.entry_slots.specs.declared.EntryKey.{EntryKey}

@@ -10,6 +10,7 @@ pub mod ways;
 ghost use Rattle.path.specs.Promise.{PathPromise};
 use crate::ways::Behind;
 use crate::ways::put_path;
+use base::TEXT_FULL;
 use chain::ResolvedPath;
 use chain::tracing::refusal;
 use chain::way::WAY_WORDS;
@@ -17,7 +18,6 @@ use chain::way::climb;
 use chain::way::list_places;
 use chain::way::resolved;
 use entry_slots::EntryKey;
-use walk::TEXT_FULL;
 
 // What a path answers: its names and end, and how many bytes its text takes; or a refusal's number.
 pub enum PathAnswer {

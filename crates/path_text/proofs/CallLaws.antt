@@ -6,9 +6,9 @@ use mathlib.Core.Bool.{true, false}
 use native.Mathlib.Nat.{zero-add}
 use borrow.Author.Tests.{lt-ltb, le-ltb}
 use lib.ListN.{length}
-use Rattle.walk.specs.Outcome.{Outcome, refused, answered}
-use Rattle.walk.specs.Refusals.{aboveDomain, nameOutside, textFull, domain}
-use Rattle.walk.proofs.ListLaws.{sets-front}
+use Rattle.base.specs.Outcome.{Outcome, refused, answered}
+use Rattle.base.specs.Refusals.{aboveDomain, nameOutside, textFull, domain}
+use Rattle.base.proofs.ListLaws.{sets-front}
 use Rattle.utf16.specs.declared.Decoded.{Decoded}
 use Rattle.utf16.specs.declared.Decoded.the-variants as decoded
 use Rattle.utf16.proofs.PutLaws.{Put}

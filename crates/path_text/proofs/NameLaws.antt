@@ -7,7 +7,7 @@ use native.Mathlib.Omega.{arith}
 use borrow.Author.Tests.{eq-eqb, ne-eqb, leb-true, eqb-true, eqb-false}
 use lib.ListN.{length, length-append, getD}
 use lib.Dec.{eqb}
-use Rattle.walk.specs.Refusals.{domain}
+use Rattle.base.specs.Refusals.{domain}
 use Rattle.utf16.specs.Text.{nameText}
 use Rattle.utf16.proofs.TextLaws.{name-most, name-least}
 use Rattle.entry_slots.specs.Names.{sourceOf, lengthsOf, lengthOf, inside}

@@ -3,9 +3,9 @@ use Prim.Native.Nat.{ℕ}
 use mathlib.Core.Path.{_≡_}
 use mathlib.Core.List.{List}
 use lib.ListN.{length}
-use Rattle.walk.specs.Lent.{Lent, before, after}
-use Rattle.walk.specs.Lists.{listAfter}
-use Rattle.walk.specs.Outcome.{Outcome, mapOutcome}
+use Rattle.base.specs.Lent.{Lent, before, after}
+use Rattle.base.specs.Lists.{listAfter}
+use Rattle.base.specs.Outcome.{Outcome, mapOutcome}
 use Rattle.utf16.specs.Decoding.{outcome as decodedOutcome}
 use Rattle.utf16.specs.declared.Decoded.{Decoded}
 use Rattle.entry_slots.specs.declared.NamePlace.{NamePlace}

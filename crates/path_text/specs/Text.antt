@@ -2,7 +2,7 @@
 use Prim.Native.Nat.{ℕ}
 use mathlib.Core.List.{List, [], _∷_, _++_}
 use lib.ListN.{length}
-use Rattle.walk.specs.Lists.{flatten}
+use Rattle.base.specs.Lists.{flatten}
 use Rattle.utf16.specs.Text.{nameText}
 use Rattle.utf16.specs.Decimal.{decimal}
 use Rattle.entry_slots.specs.Names.{sourceOf}

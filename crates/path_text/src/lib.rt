@@ -10,13 +10,13 @@ pub mod text;
 ghost use Rattle.path_text.specs.Promise.{DecodePromise};
 use crate::text::place_length;
 use crate::text::put_place;
+use base::ABOVE_DOMAIN;
+use base::DOMAIN;
+use base::NAME_OUTSIDE;
+use base::TEXT_FULL;
 use entry_slots::NamePlace;
 use entry_slots::names::is_inside;
 use utf16::Decoded;
-use walk::ABOVE_DOMAIN;
-use walk::DOMAIN;
-use walk::NAME_OUTSIDE;
-use walk::TEXT_FULL;
 
 // The text of the name at a place, at the front of the lent text. An odd last byte is dropped.
 // Refused, with nothing written: 1 journal or image is above the domain, 7 the place, as it is given, is outside its slice, 8 the

@@ -4,7 +4,7 @@ use mathlib.Core.Path.{_≡_, _∙_}
 use native.Mathlib.Omega.{arith}
 use lib.Dec.{eqb, ltb}
 use borrow.Author.Tests.{lt-ltb, le-ltb, ltb-true, ltb-false, ne-eqb, eqb-false}
-use Rattle.walk.proofs.ChoiceLaws.{cond-cases}
+use Rattle.base.proofs.ChoiceLaws.{cond-cases}
 use Rattle.read_ahead.specs.Reading.{batch, large, atOnce, readTo}
 
 module _ (records slots heads position : ℕ) where

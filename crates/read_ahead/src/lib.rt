@@ -10,7 +10,7 @@ mod batch;
 ghost use mathlib.Core.Path.{_≡_};
 ghost use Prim.Native.Nat.{_+_, _/_, _^_, _<_};
 ghost use lib.ListN.{length};
-ghost use Rattle.walk.specs.Lent.{before};
+ghost use Rattle.base.specs.Lent.{before};
 ghost use Rattle.entry_slots.specs.Slots.{slotsIn};
 ghost use Rattle.read_ahead.specs.Reading.{atOnce, readTo};
 use crate::batch::BATCH;

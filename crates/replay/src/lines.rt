@@ -1,10 +1,10 @@
 // Lines with numbers, a record's fields, a text or a refusal.
+use base::Place;
 use libc::STDOUT_FILENO;
 use usn_record::UsnRecord;
 use usn_record::bytes::byte_at;
 use usn_record::bytes::le_u16;
 use usn_record::bytes::signed_bits;
-use walk::Place;
 
 // A line that no recording has.
 pub(crate) fn write_refused(n: u32) {

@@ -8,13 +8,13 @@ use libc::STDOUT_FILENO;
 use usn_carver::Carving;
 use usn_carver::CarvingStats;
 use usn_carver::carve_usn_records;
-use usn_journal::Scanned;
-use usn_journal::parse_usn_journal;
-use usn_reader::Answer;
-use usn_reader::Reading;
-use usn_reader::UsnJournalReader;
 use usn_record::Parsed;
 use usn_record::listed_record;
+use usn_scan::Scanned;
+use usn_scan::parse_usn_journal;
+use usn_window::Answer;
+use usn_window::Reading;
+use usn_window::UsnJournalReader;
 
 pub(crate) fn scan(journal: &[u8]) {
     let mut list = [0usize; 128];

@@ -12,8 +12,8 @@ use rewind::Rewind;
 use rewind::Started;
 use rewind::rewind_next;
 use rewind::rewind_start;
-use usn_journal::Scanned;
-use usn_journal::parse_usn_journal;
+use usn_scan::Scanned;
+use usn_scan::parse_usn_journal;
 
 // The words of a record in the scan's list, and of an entry in the carver's.
 const RECORD_WORDS: usize = 2;

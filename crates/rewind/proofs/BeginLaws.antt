@@ -4,7 +4,7 @@ use mathlib.Core.Path.{_≡_}
 use mathlib.Core.List.{List}
 use native.Mathlib.Omega.{arith}
 use lib.ListN.{length}
-use Rattle.walk.specs.Outcome.{Outcome, refused, answered, mapOutcome}
+use Rattle.base.specs.Outcome.{Outcome, refused, answered, mapOutcome}
 use Rattle.entry_slots.specs.Table.{Table}
 use Rattle.entry_slots.specs.Index.{headsOf, nextsOf, headsAfter, nextsAfter}
 use Rattle.entry_table.proofs.SeedLaws.{index-then}

@@ -8,9 +8,9 @@ use borrow.Author.Tests.{leb-true, leb-false, le-ltb, lt-ltb}
 use lib.ListN.{length, take, drop, length-take}
 use lib.Seq.{sets}
 use lib.Dec.{leb, ltb}
-use Rattle.walk.specs.Outcome.{Outcome, refused, answered}
-use Rattle.walk.specs.Refusals.{tableFull}
-use Rattle.walk.proofs.ListLaws.{sets-front}
+use Rattle.base.specs.Outcome.{Outcome, refused, answered}
+use Rattle.base.specs.Refusals.{tableFull}
+use Rattle.base.proofs.ListLaws.{sets-front}
 use Rattle.entry_slots.specs.Slots.{stride, slotsIn}
 use Rattle.entry_slots.specs.Table.{Table, known}
 use Rattle.additions.specs.Storing.{addAll, newKeys, keysOf, adding, usedAfter, wordsAfter}

@@ -7,10 +7,10 @@ use native.Mathlib.Omega.{arith}
 use borrow.Author.Tests.{eqb-true, ltb-true, ltb-false}
 use lib.ListN.{length, drop}
 use lib.Dec.{ltb, eqb}
-use Rattle.walk.specs.Outcome.{Outcome, refused, answered, mapOutcome}
-use Rattle.walk.specs.Refusals.{textFull}
-use Rattle.walk.proofs.ChoiceLaws.{cond-cases}
-use Rattle.walk.proofs.ListLaws.{sets-front}
+use Rattle.base.specs.Outcome.{Outcome, refused, answered, mapOutcome}
+use Rattle.base.specs.Refusals.{textFull}
+use Rattle.base.proofs.ChoiceLaws.{cond-cases}
+use Rattle.base.proofs.ListLaws.{sets-front}
 use Rattle.entry_slots.specs.Names.{lengthsOf, inside}
 use Rattle.entry_slots.specs.Slots.{stride, slotsIn}
 use Rattle.entry_slots.specs.Table.{Table, table, Addition}

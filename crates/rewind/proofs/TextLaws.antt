@@ -6,9 +6,9 @@ use mathlib.Core.List.{List, _∷_}
 use mathlib.Core.Bool.{not, _||_}
 use native.Mathlib.Omega.{arith}
 use lib.Dec.{ltb, eqb}
-use Rattle.walk.specs.Outcome.{Outcome, refused, answered, mapOutcome, andThen}
-use Rattle.walk.specs.Refusals.{textFull, domain}
-use Rattle.walk.proofs.ChoiceLaws.{cond-cases}
+use Rattle.base.specs.Outcome.{Outcome, refused, answered, mapOutcome, andThen}
+use Rattle.base.specs.Refusals.{textFull, domain}
+use Rattle.base.proofs.ChoiceLaws.{cond-cases}
 use Rattle.entry_slots.specs.Names.{allInside}
 use Rattle.entry_slots.specs.Slots.{slotsIn, namesIn}
 use Rattle.entry_slots.specs.Table.{Table, Addition}

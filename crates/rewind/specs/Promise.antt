@@ -3,9 +3,9 @@ use Prim.Native.Nat.{ℕ}
 use mathlib.Core.Path.{_≡_}
 use mathlib.Core.List.{List}
 use lib.ListN.{length}
-use Rattle.walk.specs.Lent.{Lent, before, after}
-use Rattle.walk.specs.Lists.{listAfter}
-use Rattle.walk.specs.Outcome.{Outcome, mapOutcome}
+use Rattle.base.specs.Lent.{Lent, before, after}
+use Rattle.base.specs.Lists.{listAfter}
+use Rattle.base.specs.Outcome.{Outcome, mapOutcome}
 use Rattle.entry_slots.specs.Slots.{slotsIn}
 use Rattle.entry_slots.specs.Table.{Table, table}
 use Rattle.entry_slots.specs.Index.{headsAfter, nextsAfter, headsLeft, nextsLeft}

@@ -4,9 +4,9 @@ use mathlib.Core.List.{List}
 use mathlib.Core.Bool.{cond, _||_}
 use lib.ListN.{take}
 use lib.Dec.{ltb}
-use Rattle.walk.specs.Outcome.{Outcome, refused, answered}
-use Rattle.walk.specs.Lists.{overwrite}
-use Rattle.walk.specs.Refusals.{tableFull}
+use Rattle.base.specs.Outcome.{Outcome, refused, answered}
+use Rattle.base.specs.Lists.{overwrite}
+use Rattle.base.specs.Refusals.{tableFull}
 use Rattle.entry_slots.specs.Slots.{stride, slotsIn}
 use Rattle.entry_slots.specs.Table.{Table, table, known}
 use Rattle.additions.specs.Storing.{addAll, newKeys, keysOf}

@@ -1,7 +1,7 @@
 -- A step of a rewind: the next record goes into the forward table, and its chain is its parent's in that table. Text has no part in it.
 use Prim.Native.Nat.{ℕ, _+_}
 use mathlib.Core.List.{List}
-use Rattle.walk.specs.Outcome.{Outcome, refused, answered, mapOutcome, andThen}
+use Rattle.base.specs.Outcome.{Outcome, refused, answered, mapOutcome, andThen}
 use Rattle.entry_slots.specs.Table.{Table, table}
 use Rattle.chain.specs.Settings.{depth}
 use Rattle.chain.specs.Chain.{resolved}

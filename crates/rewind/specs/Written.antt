@@ -2,7 +2,7 @@
 use Prim.Native.Nat.{ℕ}
 use mathlib.Core.List.{List}
 use lib.ListN.{length}
-use Rattle.walk.specs.Outcome.{Outcome, refused, answered, mapOutcome}
+use Rattle.base.specs.Outcome.{Outcome, refused, answered, mapOutcome}
 use Rattle.chain.specs.Chain.{resolved}
 use Rattle.path_text.specs.Decoding.{withText}
 use Rattle.path.specs.Written.{WrittenPath}

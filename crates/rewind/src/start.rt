@@ -6,13 +6,13 @@ ghost use Rattle.rewind.specs.Promise.{BeginPromise};
 use crate::Rewind;
 use crate::Started;
 use additions::room::records_fit;
+use base::TABLE_FULL;
+use base::put_words;
 use entry_slots::links::build;
 use entry_slots::slots::STRIDE;
 use entry_table::Stored;
 use rewind_records::backward::add_backward;
 use rewind_records::turn::refusal;
-use walk::TABLE_FULL;
-use walk::put_words;
 
 // What `rewind_start` does with words for an index that are enough, or with no heads. The index is built after the tests, and kept
 // with every addition.

@@ -7,9 +7,9 @@ use native.Mathlib.Omega.{arith}
 use borrow.Author.Tests.{lt-leb}
 use lib.ListN.{drop}
 use lib.Dec.{leb}
-use Rattle.walk.specs.Outcome.{Outcome, refused, answered}
-use Rattle.walk.specs.Lists.{every}
-use Rattle.walk.proofs.ChoiceLaws.{and-left, and-right}
+use Rattle.base.specs.Outcome.{Outcome, refused, answered}
+use Rattle.base.specs.Lists.{every}
+use Rattle.base.proofs.ChoiceLaws.{and-left, and-right}
 use Rattle.usn_record.specs.Record.{isAnswered}
 use Rattle.entry_slots.specs.Slots.{rows}
 use Rattle.entry_slots.proofs.RowLaws.{rows-next, rows-end, map-rows}

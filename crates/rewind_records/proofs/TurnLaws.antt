@@ -7,9 +7,9 @@ use native.Mathlib.Omega.{arith}
 use borrow.Author.Tests.{lt-ltb, le-ltb, ltb-false, ne-eqb, not-false}
 use lib.ListN.{drop}
 use lib.Dec.{ltb}
-use Rattle.walk.specs.Outcome.{Outcome, refused, answered}
-use Rattle.walk.specs.Refusals.{aboveDomain, badState, notARecord, nameOutside, domain}
-use Rattle.walk.proofs.ChoiceLaws.{cond-cases, or-left, or-right}
+use Rattle.base.specs.Outcome.{Outcome, refused, answered}
+use Rattle.base.specs.Refusals.{aboveDomain, badState, notARecord, nameOutside, domain}
+use Rattle.base.proofs.ChoiceLaws.{cond-cases, or-left, or-right}
 use Rattle.entry_slots.specs.Names.{allInside}
 use Rattle.entry_slots.specs.Slots.{slotsIn, namesIn}
 use Rattle.entry_slots.specs.Table.{Table}

@@ -4,9 +4,9 @@ use mathlib.Core.List.{List, [], _∷_, map, reverse}
 use mathlib.Core.Bool.{Bool, cond, not, _||_}
 use lib.ListN.{length}
 use lib.Dec.{ltb, eqb}
-use Rattle.walk.specs.Outcome.{Outcome, refused, answered}
-use Rattle.walk.specs.Lists.{every}
-use Rattle.walk.specs.Refusals.{aboveDomain, badState, notARecord, nameOutside, domain}
+use Rattle.base.specs.Outcome.{Outcome, refused, answered}
+use Rattle.base.specs.Lists.{every}
+use Rattle.base.specs.Refusals.{aboveDomain, badState, notARecord, nameOutside, domain}
 use Rattle.usn_record.specs.Record.{isAnswered}
 use Rattle.entry_slots.specs.Names.{Lengths, lengths, allInside}
 use Rattle.entry_slots.specs.Slots.{slotsIn, namesIn}

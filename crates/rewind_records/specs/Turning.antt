@@ -2,7 +2,7 @@
 use Prim.Native.Nat.{ℕ}
 use mathlib.Core.List.{List, [], _∷_}
 use lib.ListN.{drop}
-use Rattle.walk.specs.Outcome.{Outcome, refused, answered}
+use Rattle.base.specs.Outcome.{Outcome, refused, answered}
 use Rattle.entry_slots.specs.Table.{Table}
 use Rattle.rewind_records.specs.Environment.{Environment, entriesOf, tested}
 use Rattle.additions.specs.declared.entries.RecordEntry.{RecordEntry}

@@ -1,7 +1,7 @@
 // The walk from the last record to the first: the additions to the first table, by way of an index.
 ghost use Prim.Native.Nat.{_+_, _≤_, _<_};
 ghost use lib.ListN.{length};
-ghost use Rattle.walk.specs.Lent.{before};
+ghost use Rattle.base.specs.Lent.{before};
 ghost use Rattle.entry_slots.specs.Slots.{slotsIn};
 ghost use Rattle.entry_slots.specs.Table.{table, known};
 ghost use Rattle.entry_slots.specs.Index.{Indexed};

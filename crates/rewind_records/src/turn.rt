@@ -9,14 +9,14 @@ ghost use Rattle.rewind_records.specs.Environment.{allAnswered, environm
 ghost use Rattle.rewind_records.specs.Turning.{turning, turnOutcome};
 use additions::entries::RecordEntry;
 use additions::entries::entry_at;
+use base::ABOVE_DOMAIN;
+use base::BAD_STATE;
+use base::DOMAIN;
+use base::NAME_OUTSIDE;
+use base::NOT_A_RECORD;
 use entry_slots::names::all_inside;
 use entry_slots::slots::STRIDE;
 use usn_record::listed::is_listed;
-use walk::ABOVE_DOMAIN;
-use walk::BAD_STATE;
-use walk::DOMAIN;
-use walk::NAME_OUTSIDE;
-use walk::NOT_A_RECORD;
 
 // Whether a record stands at an offset.
 fn is_record(journal: &[u8], offset: usize) -> bool

@@ -7,7 +7,7 @@ use mathlib.Core.Bool.{Bool, true, false}
 use borrow.Author.Tests.{eqb-true, eqb-false}
 use lib.ListN.{length}
 use lib.Dec.{eqb}
-use Rattle.walk.specs.Outcome.{Outcome, refused, answered}
+use Rattle.base.specs.Outcome.{Outcome, refused, answered}
 use Rattle.entry_slots.specs.Table.{Table}
 use Rattle.rewind_records.specs.Environment.{Environment, environmentOf, rewindRefusal}
 use Rattle.rewind_records.specs.Turning.{Next, ended, next, turning}

@@ -6,9 +6,9 @@ use native.Mathlib.Omega.{arith}
 use native.Mathlib.Nat.{zero-add}
 use lib.ListN.{length, length-append, length-set, set}
 use lib.Seq.{sets, length-sets}
-use Rattle.walk.specs.Outcome.{Outcome, refused, answered}
-use Rattle.walk.specs.Lists.{overwrite}
-use Rattle.walk.proofs.ListLaws.{sets-append, sets-front}
+use Rattle.base.specs.Outcome.{Outcome, refused, answered}
+use Rattle.base.specs.Lists.{overwrite}
+use Rattle.base.proofs.ListLaws.{sets-append, sets-front}
 use Rattle.entry_slots.specs.Slots.{slotsIn}
 use Rattle.entry_slots.specs.Table.{Table, table}
 use Rattle.entry_slots.specs.Index.{headsOf, nextsOf}

@@ -8,7 +8,7 @@ use native.Mathlib.Omega.{arith}
 use borrow.Author.Tests.{ltb-true, ltb-false}
 use lib.ListN.{length}
 use lib.Dec.{ltb}
-use Rattle.walk.specs.Outcome.{Outcome, refused, answered, mapOutcome}
+use Rattle.base.specs.Outcome.{Outcome, refused, answered, mapOutcome}
 use Rattle.entry_slots.specs.Names.{lengthsOf, inside}
 use Rattle.entry_slots.specs.Table.{Table, table}
 use Rattle.additions.specs.Storing.{adding}

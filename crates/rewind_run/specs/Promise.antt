@@ -3,9 +3,9 @@ use Prim.Native.Nat.{ℕ, _-_, _<_, _≤_}
 use mathlib.Core.Path.{_≡_}
 use mathlib.Core.List.{List}
 use lib.ListN.{length}
-use Rattle.walk.specs.Lent.{Lent, before, after}
-use Rattle.walk.specs.Lists.{overwrite, listAfter}
-use Rattle.walk.specs.Outcome.{Outcome, mapOutcome}
+use Rattle.base.specs.Lent.{Lent, before, after}
+use Rattle.base.specs.Lists.{overwrite, listAfter}
+use Rattle.base.specs.Outcome.{Outcome, mapOutcome}
 use Rattle.entry_slots.specs.Slots.{slotsIn}
 use Rattle.entry_slots.specs.Table.{Table}
 use Rattle.entry_slots.specs.Index.{headsOf, nextsOf, Indexed, headsLeft, nextsLeft}

@@ -3,7 +3,7 @@
 use Prim.Native.Nat.{ℕ, zero, suc, _+_, _-_}
 use mathlib.Core.List.{List, [], _∷_, _++_}
 use lib.ListN.{length}
-use Rattle.walk.specs.Outcome.{Outcome, refused, answered}
+use Rattle.base.specs.Outcome.{Outcome, refused, answered}
 use Rattle.entry_slots.specs.Table.{Table}
 use Rattle.rewind_records.specs.Environment.{environmentOf, tested}
 use Rattle.rewind_records.specs.Turning.{Next, ended, next}

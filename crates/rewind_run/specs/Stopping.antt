@@ -6,8 +6,8 @@ use mathlib.Core.List.{List}
 use mathlib.Core.Bool.{Bool, false, _||_}
 use lib.ListN.{length}
 use lib.Dec.{eqb}
-use Rattle.walk.specs.Outcome.{answered}
-use Rattle.walk.specs.Refusals.{tableFull, textFull}
+use Rattle.base.specs.Outcome.{answered}
+use Rattle.base.specs.Refusals.{tableFull, textFull}
 use Rattle.entry_slots.specs.Slots.{slotsIn}
 use Rattle.entry_slots.specs.Table.{known}
 use Rattle.additions.specs.Walking.{recordsIn, entryIn}

@@ -7,8 +7,8 @@ use native.Mathlib.Omega.{arith}
 use lib.ListN.{length}
 use lib.Seq.{sets}
 use lib.Dec.{ltb}
-use Rattle.walk.specs.Outcome.{Outcome, refused, answered}
-use Rattle.walk.specs.Refusals.{tableFull, textFull}
+use Rattle.base.specs.Outcome.{Outcome, refused, answered}
+use Rattle.base.specs.Refusals.{tableFull, textFull}
 use Rattle.entry_slots.specs.Names.{lengthsOf, inside, allInside}
 use Rattle.entry_slots.specs.Slots.{stride, slotsIn, keyAt, infoAt, putAt, namesIn}
 use Rattle.entry_slots.specs.Table.{Table, table, slotFor, Addition}

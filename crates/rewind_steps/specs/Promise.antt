@@ -5,9 +5,9 @@ use mathlib.Core.Path.{_≡_}
 use mathlib.Core.List.{List}
 use mathlib.Core.Bool.{true}
 use lib.ListN.{length}
-use Rattle.walk.specs.Lent.{Lent, before, after}
-use Rattle.walk.specs.Outcome.{Outcome}
-use Rattle.walk.specs.Refusals.{domain}
+use Rattle.base.specs.Lent.{Lent, before, after}
+use Rattle.base.specs.Outcome.{Outcome}
+use Rattle.base.specs.Refusals.{domain}
 use Rattle.entry_slots.specs.Names.{lengthsOf, inside, allInside}
 use Rattle.entry_slots.specs.Slots.{slotsIn, namesIn, putAt}
 use Rattle.entry_slots.specs.Table.{Table, table}

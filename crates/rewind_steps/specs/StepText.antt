@@ -2,7 +2,7 @@
 -- much room there is for text.
 use Prim.Native.Nat.{ℕ}
 use mathlib.Core.List.{List, [], _++_}
-use Rattle.walk.specs.Outcome.{Outcome, answered}
+use Rattle.base.specs.Outcome.{Outcome, answered}
 use Rattle.path_text.specs.Text.{pathText, stepText}
 use Rattle.path_text.specs.Decoding.{withText}
 use Rattle.entry_slots.specs.Table.{Table}

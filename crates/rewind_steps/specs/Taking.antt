@@ -1,7 +1,7 @@
 -- What becomes of the record that is next: it goes into the forward table, and its chain is its parent's in that table. Text has no part in it.
 use Prim.Native.Nat.{ℕ}
 use mathlib.Core.List.{[], _∷_}
-use Rattle.walk.specs.Outcome.{Outcome, answered, mapOutcome}
+use Rattle.base.specs.Outcome.{Outcome, answered, mapOutcome}
 use Rattle.entry_slots.specs.Table.{Table, table}
 use Rattle.additions.specs.Storing.{adding}
 use Rattle.entry_slots.specs.declared.EntryKey.{EntryKey}

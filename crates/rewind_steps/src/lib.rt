@@ -9,6 +9,8 @@ ghost use Rattle.entry_slots.specs.Table.{table};
 ghost use Rattle.rewind_steps.specs.Promise.{StepAsks, TellPromise, MakePromise};
 use additions::entries::RecordEntry;
 use additions::entries::replaces_forward;
+use base::TABLE_FULL;
+use base::TEXT_FULL;
 use chain::ResolvedPath;
 use chain::way::climb;
 use chain::way::resolved;
@@ -25,8 +27,6 @@ use entry_table::Stored;
 use entry_table::adding::add_found;
 use path::ways::Behind;
 use path::ways::put_behind;
-use walk::TABLE_FULL;
-use walk::TEXT_FULL;
 
 // Where a rewind stands: how many slots of the forward table are used, and where the text so far ends.
 pub struct Stand {

@@ -5,16 +5,16 @@ use mathlib.Core.List.{List, [], _∷_, _++_}
 use mathlib.Core.Bool.{Bool, true, false, cond, not}
 use lib.Dec.{eqb}
 use mir.Val.{boolByte}
-use Rattle.walk.specs.Outcome.{Outcome, refused, answered}
-use Rattle.walk.specs.Lists.{overwrite}
-use Rattle.walk.specs.Words.{Row, Answers, Lists}
-use Rattle.walk.proofs.WordLaws.{out-both, refused-out}
+use Rattle.base.specs.Outcome.{Outcome, refused, answered}
+use Rattle.base.specs.Lists.{overwrite}
+use Rattle.base.specs.Words.{Row, Answers, Lists}
+use Rattle.base.proofs.WordLaws.{out-both, refused-out}
 use Rattle.usn_record.specs.Record.{recordWords}
 use Rattle.usn_record.specs.declared.UsnRecord.{UsnRecord}
-use Rattle.usn_reader.specs.declared.UsnJournalReader.{UsnJournalReader}
-use Rattle.usn_reader.specs.declared.Answer.{Answer}
-use Rattle.usn_reader.specs.declared.Answer.the-variants.{Record, Wants, End, Refused}
-use Rattle.usn_reader.specs.declared.Reading.{Reading}
+use Rattle.usn_window.specs.declared.UsnJournalReader.{UsnJournalReader}
+use Rattle.usn_window.specs.declared.Answer.{Answer}
+use Rattle.usn_window.specs.declared.Answer.the-variants.{Record, Wants, End, Refused}
+use Rattle.usn_window.specs.declared.Reading.{Reading}
 use Rattle.usn_answers.specs.Window.{readerWords, readerOf, answerWords, windowWords, readingWords, outcomeBy, readingOutcome}
 
 -- the row that code makes of a window

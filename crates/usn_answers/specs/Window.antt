@@ -4,14 +4,14 @@ use mathlib.Core.List.{List, [], _∷_}
 use mathlib.Core.Bool.{cond, not}
 use lib.ListN.{getD}
 use lib.Dec.{eqb}
-use Rattle.walk.specs.Lent.{Lent}
-use Rattle.walk.specs.Outcome.{Outcome, refused, answered}
-use Rattle.walk.specs.Words.{ListPromise}
+use Rattle.base.specs.Lent.{Lent}
+use Rattle.base.specs.Outcome.{Outcome, refused, answered}
+use Rattle.base.specs.Words.{ListPromise}
 use Rattle.usn_record.specs.Record.{recordWords}
-use Rattle.usn_reader.specs.declared.UsnJournalReader.{UsnJournalReader}
-use Rattle.usn_reader.specs.declared.Answer.{Answer}
-use Rattle.usn_reader.specs.declared.Answer.the-variants.{Record, Wants, End, Refused}
-use Rattle.usn_reader.specs.declared.Reading.{Reading}
+use Rattle.usn_window.specs.declared.UsnJournalReader.{UsnJournalReader}
+use Rattle.usn_window.specs.declared.Answer.{Answer}
+use Rattle.usn_window.specs.declared.Answer.the-variants.{Record, Wants, End, Refused}
+use Rattle.usn_window.specs.declared.Reading.{Reading}
 
 -- a window's numbers as six words; whether it has ended is 1 or 0
 unfoldable pub readerWords : UsnJournalReader → List ℕ

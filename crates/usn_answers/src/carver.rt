@@ -2,12 +2,12 @@
 ghost use mathlib.Core.Path.{_≡_};
 ghost use Prim.Native.Nat.{_≤_};
 ghost use lib.ListN.{length};
-ghost use Rattle.walk.specs.Words.{AnswerPromise};
+ghost use Rattle.base.specs.Words.{AnswerPromise};
 ghost use Rattle.usn_carver.specs.Carve.{outcome};
 ghost use Rattle.usn_carver.specs.Events.{statsWords};
+use base::words::put_row;
 use usn_carver::Carving;
 use usn_carver::CarvingStats;
-use walk::words::put_row;
 
 // The words of carving's answer.
 pub const STATS_WORDS: usize = 5;

@@ -1,10 +1,10 @@
 // A scan's answer as a number and a word.
 ghost use Prim.Native.Nat.{_≤_};
 ghost use lib.ListN.{length};
-ghost use Rattle.walk.specs.Words.{AnswerPromise, countWords};
-ghost use Rattle.usn_journal.specs.Outcome.{scanOutcome};
-use usn_journal::Scanned;
-use walk::words::put_row;
+ghost use Rattle.base.specs.Words.{AnswerPromise, countWords};
+ghost use Rattle.usn_scan.specs.Outcome.{scanOutcome};
+use base::words::put_row;
+use usn_scan::Scanned;
 
 // The words of a scan's answer.
 pub const COUNT_WORDS: usize = 1;

@@ -2,12 +2,12 @@
 ghost use mathlib.Core.Path.{_≡_};
 ghost use Prim.Native.Nat.{_≤_};
 ghost use lib.ListN.{length};
-ghost use Rattle.walk.specs.Words.{AnswerPromise};
+ghost use Rattle.base.specs.Words.{AnswerPromise};
 ghost use Rattle.usn_record.specs.Record.{outcome, recordWords};
+use base::words::put_row;
 use usn_record::Parsed;
 use usn_record::UsnRecord;
 use usn_record::bytes::signed_bits;
-use walk::words::put_row;
 
 // The words of a record.
 pub const RECORD_WORDS: usize = 19;

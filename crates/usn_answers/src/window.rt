@@ -2,15 +2,15 @@
 ghost use mathlib.Core.Path.{_≡_};
 ghost use Prim.Native.Nat.{_≤_};
 ghost use lib.ListN.{length};
-ghost use Rattle.walk.specs.Outcome.{answered};
-ghost use Rattle.walk.specs.Words.{AnswerPromise};
+ghost use Rattle.base.specs.Outcome.{answered};
+ghost use Rattle.base.specs.Words.{AnswerPromise};
 ghost use Rattle.usn_answers.specs.Window.{readerWords, readerOf, readingOutcome, ReadingPromise};
 use crate::record_words::row_of;
-use usn_reader::Answer;
-use usn_reader::Reading;
-use usn_reader::UsnJournalReader;
-use walk::words::put_row;
-use walk::words::put_rows;
+use base::words::put_row;
+use base::words::put_rows;
+use usn_window::Answer;
+use usn_window::Reading;
+use usn_window::UsnJournalReader;
 
 // The words of a window, and those of its longest answer, a record's.
 pub const READER_WORDS: usize = 6;

@@ -5,12 +5,12 @@ use mathlib.Core.Path.{_≡_}
 use mathlib.Core.List.{List, [], _∷_}
 use native.Mathlib.Omega.{arith}
 use lib.ListN.{length}
-use Rattle.walk.specs.Lists.{All}
-use Rattle.walk.specs.Outcome.{answered}
-use Rattle.walk.specs.Places.{part}
-use Rattle.walk.specs.Walk.{Visit, from}
-use Rattle.walk.specs.declared.Place.{Place}
-use Rattle.walk.proofs.WalkLaws.{Finds, walk-all}
+use Rattle.base.specs.Lists.{All}
+use Rattle.base.specs.Outcome.{answered}
+use Rattle.base.specs.Places.{part}
+use Rattle.base.specs.Walk.{Visit, from}
+use Rattle.base.specs.declared.Place.{Place}
+use Rattle.base.proofs.WalkLaws.{Finds, walk-all}
 use Rattle.usn_record.specs.Bytes.{leAt}
 use Rattle.usn_record.specs.Layout.{layoutOf}
 use Rattle.usn_record.specs.Record.{parsed, recordOf, listed}

@@ -5,10 +5,10 @@ use mathlib.Core.List.{List, [], _∷_, _++_, List·Memᴰ·cases-cons, List·Me
 use mathlib.Core.Logic.{⊎-elim, inl}
 use native.Mathlib.Omega.{arith}
 use lib.ListN.{length, getD}
-use Rattle.walk.specs.Masked.{Masked, placesOf}
-use Rattle.walk.specs.Outcome.{answered}
-use Rattle.walk.specs.Walk.{walk, from}
-use Rattle.walk.proofs.MaskedLaws.{masked-middle}
+use Rattle.base.specs.Masked.{Masked, placesOf}
+use Rattle.base.specs.Outcome.{answered}
+use Rattle.base.specs.Walk.{walk, from}
+use Rattle.base.proofs.MaskedLaws.{masked-middle}
 use Rattle.usn_record.specs.Bytes.{le, leAt, leBytes}
 use Rattle.usn_record.specs.Names.{nameAt}
 use Rattle.usn_record.specs.Sample.{header, sampleFixed, createdFixed, sampleRecord, recordE}

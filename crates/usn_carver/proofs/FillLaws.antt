@@ -5,10 +5,10 @@ use mathlib.Core.List.{List, [], _∷_}
 use native.Mathlib.Omega.{arith}
 use lib.ListN.{length}
 use lib.Seq.{sets}
-use Rattle.walk.specs.Lists.{placeWords}
-use Rattle.walk.specs.Walk.{go}
-use Rattle.walk.proofs.ListLaws.{Writing, writing-start, writing-skip, writing-room, writing-row, writing-end}
-use Rattle.walk.proofs.WalkLaws.{Left}
+use Rattle.base.specs.Lists.{placeWords}
+use Rattle.base.specs.Walk.{go}
+use Rattle.base.proofs.ListLaws.{Writing, writing-start, writing-skip, writing-room, writing-row, writing-end}
+use Rattle.base.proofs.WalkLaws.{Left}
 use Rattle.usn_record.specs.Zeros.{PastZeros}
 use Rattle.usn_carver.specs.Settings.{Settings}
 use Rattle.usn_carver.specs.Events.{structure, time, Event, rejected, carved, records, structures, times, statsOf}

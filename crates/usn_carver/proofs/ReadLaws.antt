@@ -5,10 +5,10 @@ use mathlib.Core.List.{List, [], _∷_}
 use native.Mathlib.Omega.{arith}
 use lib.ListN.{length}
 use lib.Dec.{ltb, eqb}
-use Rattle.walk.specs.Agree.{Agree}
-use Rattle.walk.specs.Walk.{Visit, stop, go}
-use Rattle.walk.proofs.AgreeLaws.{agree-in}
-use Rattle.walk.proofs.ChoiceLaws.{cond-cases, cond-two}
+use Rattle.base.specs.Agree.{Agree}
+use Rattle.base.specs.Walk.{Visit, stop, go}
+use Rattle.base.proofs.AgreeLaws.{agree-in}
+use Rattle.base.proofs.ChoiceLaws.{cond-cases, cond-two}
 use Rattle.usn_record.specs.Bytes.{leAt}
 use Rattle.usn_record.specs.Layout.{Layout, v2, v3}
 use Rattle.usn_record.specs.Names.{fixedOf}

@@ -5,10 +5,10 @@ use mathlib.Core.Path.{_≡_, refl, ap, sym, _∙_}
 use mathlib.Core.List.{List, [], _∷_}
 use native.Mathlib.Omega.{arith}
 use lib.ListN.{length}
-use Rattle.walk.specs.Lists.{All}
-use Rattle.walk.specs.Places.{round8}
-use Rattle.walk.specs.Walk.{Visit, goingOn, walk, from}
-use Rattle.walk.proofs.WalkLaws.{Forward, Left, left}
+use Rattle.base.specs.Lists.{All}
+use Rattle.base.specs.Places.{round8}
+use Rattle.base.specs.Walk.{Visit, goingOn, walk, from}
+use Rattle.base.proofs.WalkLaws.{Forward, Left, left}
 use Rattle.usn_record.proofs.NameLaws.{fixed-low}
 use Rattle.usn_carver.specs.Settings.{Settings}
 use Rattle.usn_carver.specs.Events.{structure, time, Event, rejected, carved, records, structures, times}

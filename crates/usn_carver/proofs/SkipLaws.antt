@@ -4,8 +4,8 @@ use mathlib.Core.Path.{_≡_, refl, sym}
 use mathlib.Core.List.{List, []}
 use native.Mathlib.Omega.{arith}
 use lib.ListN.{length}
-use Rattle.walk.specs.Walk.{go}
-use Rattle.walk.proofs.WalkLaws.{left}
+use Rattle.base.specs.Walk.{go}
+use Rattle.base.proofs.WalkLaws.{left}
 use Rattle.usn_record.specs.Bytes.{leAt}
 use Rattle.usn_record.specs.Zeros.{PastZeros}
 use Rattle.usn_record.proofs.ZeroLaws.{zeros-passed}

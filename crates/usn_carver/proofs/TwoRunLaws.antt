@@ -6,15 +6,15 @@ use mathlib.Core.Logic.{⊎-elim}
 use mathlib.Core.List.{List, [], _∷_, _++_, List·Memᴰ·head, List·Memᴰ·tail, Memᴰ·append-right}
 use native.Mathlib.Omega.{arith}
 use lib.ListN.{length}
-use Rattle.walk.specs.Lists.{All}
-use Rattle.walk.specs.Agree.{Agree}
-use Rattle.walk.specs.Masked.{Apart, Masked, placesOf}
-use Rattle.walk.specs.Outcome.{Outcome, refused, answered, listedBy}
-use Rattle.walk.specs.Places.{round8}
-use Rattle.walk.specs.Walk.{Visit, go, goingOn, walk, from}
-use Rattle.walk.specs.declared.Place.{Place}
-use Rattle.walk.proofs.MaskedLaws.{masked-none, Same, Before, apart-append, walk-two-runs}
-use Rattle.walk.proofs.WalkLaws.{Forward, Finds}
+use Rattle.base.specs.Lists.{All}
+use Rattle.base.specs.Agree.{Agree}
+use Rattle.base.specs.Masked.{Apart, Masked, placesOf}
+use Rattle.base.specs.Outcome.{Outcome, refused, answered, listedBy}
+use Rattle.base.specs.Places.{round8}
+use Rattle.base.specs.Walk.{Visit, go, goingOn, walk, from}
+use Rattle.base.specs.declared.Place.{Place}
+use Rattle.base.proofs.MaskedLaws.{masked-none, Same, Before, apart-append, walk-two-runs}
+use Rattle.base.proofs.WalkLaws.{Forward, Finds}
 use Rattle.usn_record.specs.Names.{fixedOf, nameAt}
 use Rattle.usn_record.specs.Record.{listed}
 use Rattle.usn_record.proofs.NameLaws.{fixed-low, fixed-high, fixed-v2, listed-agrees, name-after-fixed, name-before-end}

@@ -9,9 +9,9 @@ use lib.Dec.{ltb, leb, eqb}
 use mir.Syntax.{w64}
 use mir.Val.{toZ}
 use borrow.Author.Tests.{lt-ltb, le-ltb, ltb-true, ltb-false, le-leb, lt-leb, leb-true, ne-eqb, eqb-true}
-use Rattle.walk.specs.Places.{round8}
-use Rattle.walk.specs.Walk.{Visit, stop, go}
-use Rattle.walk.proofs.ChoiceLaws.{cond-cases, and-left, and-right}
+use Rattle.base.specs.Places.{round8}
+use Rattle.base.specs.Walk.{Visit, stop, go}
+use Rattle.base.proofs.ChoiceLaws.{cond-cases, and-left, and-right}
 use Rattle.usn_record.specs.Bytes.{leAt}
 use Rattle.usn_record.specs.Record.{maxRecord}
 use Rattle.usn_record.specs.Layout.{Layout, v2, v3}

@@ -8,12 +8,12 @@ use lib.Dec.{ltb, leb, eqb}
 use lib.Signed.{ltZ}
 use mir.Syntax.{w64}
 use mir.Val.{toZ}
-use Rattle.walk.specs.Outcome.{Outcome, refused, answered}
-use Rattle.walk.specs.Lists.{flatten, placeWords, listAfter}
-use Rattle.walk.specs.Places.{round8}
-use Rattle.walk.specs.Refusals.{aboveDomain, listFull, domain}
-use Rattle.walk.specs.Walk.{Visit, stop, go, from}
-use Rattle.walk.specs.declared.Place.{Place}
+use Rattle.base.specs.Outcome.{Outcome, refused, answered}
+use Rattle.base.specs.Lists.{flatten, placeWords, listAfter}
+use Rattle.base.specs.Places.{round8}
+use Rattle.base.specs.Refusals.{aboveDomain, listFull, domain}
+use Rattle.base.specs.Walk.{Visit, stop, go, from}
+use Rattle.base.specs.declared.Place.{Place}
 use Rattle.usn_record.specs.Bytes.{leAt}
 use Rattle.usn_record.specs.Layout.{Layout, v2, v3}
 use Rattle.usn_record.specs.Record.{maxRecord}

@@ -2,7 +2,7 @@
 use Prim.Native.Nat.{ℕ, suc}
 use mathlib.Core.List.{List, [], _∷_}
 use lib.ListN.{length}
-use Rattle.walk.specs.declared.Place.{Place}
+use Rattle.base.specs.declared.Place.{Place}
 use Rattle.usn_carver.specs.declared.CarvingStats.{CarvingStats}
 
 -- why a candidate is rejected

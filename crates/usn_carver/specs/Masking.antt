@@ -1,9 +1,9 @@
 -- What the second of two carving runs may replace, and where the claim that nothing changes has its exception.
 use Prim.Native.Nat.{ℕ, _+_}
 use mathlib.Core.List.{List, [], List·Memᴰ}
-use Rattle.walk.specs.Outcome.{Outcome, refused, answered, listedBy}
-use Rattle.walk.specs.Masked.{placesOf}
-use Rattle.walk.specs.declared.Place.{Place}
+use Rattle.base.specs.Outcome.{Outcome, refused, answered, listedBy}
+use Rattle.base.specs.Masked.{placesOf}
+use Rattle.base.specs.declared.Place.{Place}
 use Rattle.usn_record.specs.Names.{nameAt}
 use Rattle.usn_carver.specs.Settings.{Settings}
 use Rattle.usn_carver.specs.Events.{Reason, Event, rejected, carved}

@@ -3,8 +3,8 @@ use Prim.Native.Nat.{ℕ}
 use mathlib.Core.Path.{_≡_}
 use mathlib.Core.List.{List}
 use lib.ListN.{length}
-use Rattle.walk.specs.Lent.{Lent, before, after}
-use Rattle.walk.specs.Lists.{flatten, placeWords, overwrite}
+use Rattle.base.specs.Lent.{Lent, before, after}
+use Rattle.base.specs.Lists.{flatten, placeWords, overwrite}
 use Rattle.usn_carver.specs.Settings.{Settings}
 use Rattle.usn_carver.specs.Carve.{outcome, carving, carvingList, carvedPlaces, statsIn}
 use Rattle.usn_carver.specs.declared.Carving.{Carving}

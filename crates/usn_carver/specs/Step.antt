@@ -2,7 +2,7 @@
 use Prim.Native.Nat.{ℕ}
 use mathlib.Core.List.{List, [], _∷_}
 use mathlib.Core.Bool.{false}
-use Rattle.walk.specs.Walk.{Visit, stop, go}
+use Rattle.base.specs.Walk.{Visit, stop, go}
 use Rattle.usn_record.specs.Layout.{Layout, layoutAt}
 use Rattle.usn_carver.specs.Events.{Event, structure, time, rejected, carved}
 use Rattle.usn_carver.specs.declared.step.CarveStep.{CarveStep}

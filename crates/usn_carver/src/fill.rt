@@ -70,7 +70,7 @@ pub(crate) fn fill_list(extract: &[u8], list: &mut [usize], lower: u64, upper: u
                 o = next;
             }
             CarveStep::Carved(_, size, next) => {
-                walk::put_pair(list, 2 * stats.records_carved, o, size);
+                base::put_pair(list, 2 * stats.records_carved, o, size);
                 stats.candidates_examined += 1;
                 stats.records_carved += 1;
                 o = next;

@@ -9,9 +9,9 @@ ghost use Rattle.usn_carver.specs.Settings.{standard, settingsOf};
 ghost use Rattle.usn_carver.specs.Promise.{CarvePromise};
 use crate::fill::fill_list;
 use crate::fill::has_room;
-use walk::ABOVE_DOMAIN;
-use walk::DOMAIN;
-use walk::LIST_FULL;
+use base::ABOVE_DOMAIN;
+use base::DOMAIN;
+use base::LIST_FULL;
 
 // The earliest time of a carved record: the start of 2000, in ticks of 100 nanoseconds since 1601.
 const FILETIME_2000: u64 = 125_911_584_000_000_000;

@@ -6,8 +6,8 @@ use native.Mathlib.Numerals.{add-one}
 use native.Mathlib.Omega.{arith}
 use lib.ListN.{length, set, getD, take, drop, take-append-drop}
 use lib.Seq.{sets}
-use Rattle.walk.specs.Lists.{overwrite}
-use Rattle.walk.proofs.ListLaws.{sets-front}
+use Rattle.base.specs.Lists.{overwrite}
+use Rattle.base.proofs.ListLaws.{sets-front}
 use Rattle.usn_fields.specs.Line.{shownByte, shownTo}
 
 pub shown-none : (l : List ℕ) → l ≡ shownTo 0 l

@@ -6,12 +6,12 @@ use native.Mathlib.Omega.{arith}
 use borrow.Author.Tests.{ne-eqb, le-leb, lt-leb}
 use lib.ListN.{length, take}
 use mathlib.Core.Bool.{true}
-use Rattle.walk.specs.Lists.{flatten, placeWords, All}
-use Rattle.walk.specs.Refusals.{domain}
-use Rattle.walk.specs.declared.Place.{Place}
+use Rattle.base.specs.Lists.{flatten, placeWords, All}
+use Rattle.base.specs.Refusals.{domain}
+use Rattle.base.specs.declared.Place.{Place}
 use Rattle.usn_record.specs.Record.{listed, isAnswered}
-use Rattle.usn_journal.specs.Scan.{scanned}
-use Rattle.usn_journal.proofs.ListedLaws.{Parses, scan-parses}
+use Rattle.usn_scan.specs.Scan.{scanned}
+use Rattle.usn_scan.proofs.ListedLaws.{Parses, scan-parses}
 use Rattle.additions.specs.Walking.{recordsIn, offsetIn}
 use Rattle.usn_lines.specs.Promise.{Begins}
 use Rattle.usn_lines.specs.declared.Begun.{Begun}

@@ -9,7 +9,7 @@ use lib.Dec.{eqb}
 use lib.ListN.{length, length-append, take, drop, set, length-drop, drop-of-length-le}
 use lib.Seq.{sets, length-take-le, take-all}
 use borrow.Rule.Slice.PartMut.{putMid}
-use Rattle.walk.specs.Outcome.{Outcome, refused, answered}
+use Rattle.base.specs.Outcome.{Outcome, refused, answered}
 use Rattle.usn_record.specs.Record.{listed, outcome}
 use Rattle.usn_record.specs.declared.UsnRecord.{UsnRecord}
 use Rattle.usn_record.specs.declared.Parsed.{Parsed}

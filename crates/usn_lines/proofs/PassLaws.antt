@@ -6,16 +6,16 @@ use native.Mathlib.Omega.{arith}
 use borrow.Author.Tests.{le-ltb, le-leb}
 use lib.ListN.{length, take}
 use lib.Seq.{take-append-seam}
-use Rattle.walk.specs.Lists.{overwrite, placeWords}
-use Rattle.walk.specs.Outcome.{Outcome, refused, answered, mapOutcome}
-use Rattle.walk.specs.Refusals.{domain}
-use Rattle.walk.proofs.ListLaws.{length-flatten}
-use Rattle.usn_journal.specs.Scan.{scanned}
-use Rattle.usn_journal.specs.Outcome.{scan, scanOutcome, scanAnswer, scanList}
-use Rattle.usn_journal.specs.Promise.{Scans}
-use Rattle.usn_journal.specs.declared.Scanned.{Scanned}
-use Rattle.usn_journal.specs.declared.Scanned.the-variants as scanning
-use Rattle.usn_journal.proofs.ScanLaws.{scan-bound}
+use Rattle.base.specs.Lists.{overwrite, placeWords}
+use Rattle.base.specs.Outcome.{Outcome, refused, answered, mapOutcome}
+use Rattle.base.specs.Refusals.{domain}
+use Rattle.base.proofs.ListLaws.{length-flatten}
+use Rattle.usn_scan.specs.Scan.{scanned}
+use Rattle.usn_scan.specs.Outcome.{scan, scanOutcome, scanAnswer, scanList}
+use Rattle.usn_scan.specs.Promise.{Scans}
+use Rattle.usn_scan.specs.declared.Scanned.{Scanned}
+use Rattle.usn_scan.specs.declared.Scanned.the-variants as scanning
+use Rattle.usn_scan.proofs.ScanLaws.{scan-bound}
 use Rattle.entry_slots.specs.Table.{table}
 use Rattle.rewind.specs.Starting.{Tables, started, startOutcome, begun, forwardAfter}
 use Rattle.rewind.specs.Stepping.{stateOf}

@@ -9,9 +9,9 @@ use borrow.Author.Tests.{ltb-false, eqb-true, eqb-false}
 use lib.Dec.{ltb, eqb}
 use lib.ListN.{length, getD, take, drop, take-append-drop}
 use lib.Seq.{sets, length-take-le}
-use Rattle.walk.specs.Lists.{overwrite}
-use Rattle.walk.specs.Outcome.{Outcome, refused, answered}
-use Rattle.walk.proofs.ChoiceLaws.{cond-cases}
+use Rattle.base.specs.Lists.{overwrite}
+use Rattle.base.specs.Outcome.{Outcome, refused, answered}
+use Rattle.base.proofs.ChoiceLaws.{cond-cases}
 use Rattle.path_text.specs.Decoding.{withText}
 use Rattle.rewind_records.specs.Environment.{environmentOf, rewindRefusal}
 use Rattle.rewind_records.specs.Turning.{Next, ended, next}

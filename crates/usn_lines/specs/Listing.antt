@@ -4,11 +4,11 @@ use mathlib.Core.List.{List, [], _∷_, _++_, map}
 use mathlib.Core.Bool.{cond}
 use lib.Dec.{eqb, leb}
 use lib.ListN.{length, replicate}
-use Rattle.walk.specs.Lists.{flatten, placeWords}
-use Rattle.walk.specs.Outcome.{Outcome, refused, answered}
+use Rattle.base.specs.Lists.{flatten, placeWords}
+use Rattle.base.specs.Outcome.{Outcome, refused, answered}
 use Rattle.usn_record.specs.Record.{listed}
 use Rattle.usn_record.specs.declared.UsnRecord.{UsnRecord}
-use Rattle.usn_journal.specs.Scan.{scanned}
+use Rattle.usn_scan.specs.Scan.{scanned}
 use Rattle.utf16.specs.Decimal.{decimal}
 use Rattle.entry_slots.specs.Table.{table}
 use Rattle.additions.specs.Walking.{recordsIn, offsetIn}

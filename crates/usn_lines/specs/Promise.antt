@@ -5,9 +5,9 @@ use mathlib.Core.Path.{_≡_}
 use mathlib.Core.List.{List}
 use lib.ListN.{length, take}
 use lib.Seq.{sets}
-use Rattle.walk.specs.Lent.{Lent, before, after}
-use Rattle.usn_journal.specs.Scan.{scanned}
-use Rattle.walk.specs.Outcome.{Outcome, refused, answered}
+use Rattle.base.specs.Lent.{Lent, before, after}
+use Rattle.usn_scan.specs.Scan.{scanned}
+use Rattle.base.specs.Outcome.{Outcome, refused, answered}
 use Rattle.rewind.specs.declared.Rewind.{Rewind}
 use Rattle.rewind_run.specs.declared.RewindRun.{RewindRun}
 use Rattle.usn_lines.specs.Listing.{Standing, standing, mostPath, onward, pathOf, line, part, afterPart, listOf, begins}

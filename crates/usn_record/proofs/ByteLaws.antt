@@ -8,10 +8,10 @@ use borrow.Author.Tests.{le-leb, lt-leb}
 use lib.ListN.{length, getD, take, drop}
 use lib.Dec.{leb, lit<}
 use lib.Pow.{pow-add}
-use Rattle.walk.specs.Places.{part}
-use Rattle.walk.specs.Agree.{Agree}
-use Rattle.walk.proofs.ChoiceLaws.{cond-cases}
-use Rattle.walk.proofs.AgreeLaws.{agree-in, part-in, part-length}
+use Rattle.base.specs.Places.{part}
+use Rattle.base.specs.Agree.{Agree}
+use Rattle.base.proofs.ChoiceLaws.{cond-cases}
+use Rattle.base.proofs.AgreeLaws.{agree-in, part-in, part-length}
 use Rattle.usn_record.specs.Bytes.{le, leAt}
 
 -- w bytes and v more

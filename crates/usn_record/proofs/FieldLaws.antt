@@ -8,9 +8,9 @@ use native.Mathlib.Omega.{arith}
 use lib.ListN.{length}
 use lib.Dec.{ltb}
 use borrow.Author.Tests.{ltb-false}
-use Rattle.walk.specs.Places.{emptyPlace}
-use Rattle.walk.specs.declared.Place.{Place}
-use Rattle.walk.proofs.ChoiceLaws.{cond-cases, or-left, or-right}
+use Rattle.base.specs.Places.{emptyPlace}
+use Rattle.base.specs.declared.Place.{Place}
+use Rattle.base.proofs.ChoiceLaws.{cond-cases, or-left, or-right}
 use Rattle.usn_record.specs.Bytes.{leAt}
 use Rattle.usn_record.specs.Fields.{referenceOf, filenameOf}
 use Rattle.usn_record.specs.declared.fields.Reference.{Reference}

@@ -9,12 +9,12 @@ use native.Mathlib.Omega.{arith}
 use lib.ListN.{length, length-take}
 use lib.Dec.{ltb, eqb}
 use borrow.Author.Tests.{le-ltb, ne-eqb}
-use Rattle.walk.specs.Outcome.{Outcome, refused, answered}
-use Rattle.walk.specs.Places.{part}
-use Rattle.walk.specs.Agree.{Agree}
-use Rattle.walk.specs.Refusals.{domain}
-use Rattle.walk.proofs.ChoiceLaws.{cond-cases, cond-two}
-use Rattle.walk.proofs.AgreeLaws.{agree-part, part-length}
+use Rattle.base.specs.Outcome.{Outcome, refused, answered}
+use Rattle.base.specs.Places.{part}
+use Rattle.base.specs.Agree.{Agree}
+use Rattle.base.specs.Refusals.{domain}
+use Rattle.base.proofs.ChoiceLaws.{cond-cases, cond-two}
+use Rattle.base.proofs.AgreeLaws.{agree-part, part-length}
 use Rattle.usn_record.specs.Bytes.{leAt}
 use Rattle.usn_record.specs.Layout.{Layout, layoutOf, v2, v3}
 use Rattle.usn_record.specs.Fields.{filenameOf}

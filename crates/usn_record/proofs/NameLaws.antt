@@ -8,14 +8,14 @@ use native.Mathlib.Omega.{arith}
 use lib.ListN.{length, length-take}
 use lib.Dec.{ltb, eqb}
 use borrow.Author.Tests.{ltb-true, ltb-false, eqb-true, eqb-false, eq-eqb, ne-eqb}
-use Rattle.walk.specs.Outcome.{Outcome, refused, answered}
-use Rattle.walk.specs.Places.{part, emptyPlace, placeFrom}
-use Rattle.walk.specs.Agree.{Agree}
-use Rattle.walk.specs.Masked.{Within, Apart}
-use Rattle.walk.specs.Refusals.{notARecord}
-use Rattle.walk.specs.declared.Place.{Place}
-use Rattle.walk.proofs.ChoiceLaws.{cond-cases, cond-two}
-use Rattle.walk.proofs.AgreeLaws.{agree-in}
+use Rattle.base.specs.Outcome.{Outcome, refused, answered}
+use Rattle.base.specs.Places.{part, emptyPlace, placeFrom}
+use Rattle.base.specs.Agree.{Agree}
+use Rattle.base.specs.Masked.{Within, Apart}
+use Rattle.base.specs.Refusals.{notARecord}
+use Rattle.base.specs.declared.Place.{Place}
+use Rattle.base.proofs.ChoiceLaws.{cond-cases, cond-two}
+use Rattle.base.proofs.AgreeLaws.{agree-in}
 use Rattle.usn_record.specs.Bytes.{leAt}
 use Rattle.usn_record.specs.Layout.{Layout, v2, v3}
 use Rattle.usn_record.specs.Record.{parsed, recordOf, nameEnd, asListed, listed}

@@ -12,13 +12,13 @@ use lib.Dec.{ltb, eqb}
 use mir.Syntax.{w64}
 use mir.Val.{toZ}
 use borrow.Author.Tests.{lt-ltb, le-ltb, ltb-false, ne-eqb, eq-eqb}
-use Rattle.walk.specs.Outcome.{Outcome, refused, answered}
-use Rattle.walk.specs.Places.{part}
-use Rattle.walk.specs.Agree.{Agree}
-use Rattle.walk.specs.Refusals.{aboveDomain, shortSlice, badLength, lengthPastSlice, notARecord, domain}
-use Rattle.walk.specs.declared.Place.{Place}
-use Rattle.walk.proofs.ChoiceLaws.{cond-cases, or-left, or-right, and-false}
-use Rattle.walk.proofs.AgreeLaws.{agree-part, part-length, part-lent}
+use Rattle.base.specs.Outcome.{Outcome, refused, answered}
+use Rattle.base.specs.Places.{part}
+use Rattle.base.specs.Agree.{Agree}
+use Rattle.base.specs.Refusals.{aboveDomain, shortSlice, badLength, lengthPastSlice, notARecord, domain}
+use Rattle.base.specs.declared.Place.{Place}
+use Rattle.base.proofs.ChoiceLaws.{cond-cases, or-left, or-right, and-false}
+use Rattle.base.proofs.AgreeLaws.{agree-part, part-length, part-lent}
 use Rattle.usn_record.specs.Bytes.{leAt}
 use Rattle.usn_record.specs.Layout.{Layout, v2, v3}
 use Rattle.usn_record.specs.Fields.{timestampOf, referenceOf, filenameOf}

@@ -7,10 +7,10 @@ use native.Mathlib.Omega.{arith}
 use lib.ListN.{length}
 use lib.Dec.{ltb, eqb}
 use borrow.Author.Tests.{ne-eqb, ltb-false}
-use Rattle.walk.specs.Outcome.{Outcome, refused, answered}
-use Rattle.walk.specs.Places.{part}
-use Rattle.walk.proofs.ChoiceLaws.{cond-cases}
-use Rattle.walk.proofs.AgreeLaws.{part-length}
+use Rattle.base.specs.Outcome.{Outcome, refused, answered}
+use Rattle.base.specs.Places.{part}
+use Rattle.base.proofs.ChoiceLaws.{cond-cases}
+use Rattle.base.proofs.AgreeLaws.{part-length}
 use Rattle.usn_record.specs.Bytes.{leAt}
 use Rattle.usn_record.specs.Layout.{Layout, v2, v3}
 use Rattle.usn_record.specs.Fields.{referenceOf}

@@ -2,7 +2,7 @@
 use Prim.Native.Nat.{ℕ}
 use mathlib.Core.Path.{_≡_, refl}
 use mathlib.Core.List.{[], _∷_}
-use Rattle.walk.specs.Outcome.{answered}
+use Rattle.base.specs.Outcome.{answered}
 use Rattle.usn_record.specs.Bytes.{le, leAt}
 use Rattle.usn_record.specs.Fields.{referenceOf, timestampOf, filenameOf}
 use Rattle.usn_record.specs.Record.{recordOf, parsed, listed}

@@ -8,10 +8,10 @@ use native.Mathlib.Omega.{arith}
 use lib.ListN.{length, take, drop}
 use lib.Dec.{leb}
 use borrow.Author.Tests.{le-leb, lt-leb, leb-true}
-use Rattle.walk.specs.Outcome.{Outcome, refused, answered}
-use Rattle.walk.specs.Places.{part}
-use Rattle.walk.proofs.ChoiceLaws.{and-left, and-right}
-use Rattle.walk.proofs.AgreeLaws.{part-length, part-lent}
+use Rattle.base.specs.Outcome.{Outcome, refused, answered}
+use Rattle.base.specs.Places.{part}
+use Rattle.base.proofs.ChoiceLaws.{and-left, and-right}
+use Rattle.base.proofs.AgreeLaws.{part-length, part-lent}
 use Rattle.usn_record.specs.Bytes.{leAt}
 use Rattle.usn_record.specs.Layout.{Layout}
 use Rattle.usn_record.specs.Record.{maxRecord, parsed, asListed, listed, isAnswered, fitsRecord}

@@ -3,8 +3,8 @@ use Prim.Native.Nat.{ℕ, _+_, _-_, _*_, _/_, _%_, _^_}
 use mathlib.Core.Bool.{Bool, cond, _||_}
 use lib.IntN.{ℤ, pos, negsuc}
 use lib.Dec.{ltb}
-use Rattle.walk.specs.Places.{emptyPlace}
-use Rattle.walk.specs.declared.Place.{Place}
+use Rattle.base.specs.Places.{emptyPlace}
+use Rattle.base.specs.declared.Place.{Place}
 use Rattle.usn_record.specs.declared.Timestamp.{Timestamp}
 use Rattle.usn_record.specs.declared.fields.Reference.{Reference}
 

@@ -6,9 +6,9 @@ use lib.ListN.{length}
 use lib.Dec.{ltb, leb, eqb}
 use mir.Syntax.{w64}
 use mir.Val.{toZ, ofZ}
-use Rattle.walk.specs.Outcome.{Outcome, refused, answered, refusedAs}
-use Rattle.walk.specs.Places.{part}
-use Rattle.walk.specs.Refusals.{aboveDomain, shortSlice, badLength, lengthPastSlice, notARecord, domain}
+use Rattle.base.specs.Outcome.{Outcome, refused, answered, refusedAs}
+use Rattle.base.specs.Places.{part}
+use Rattle.base.specs.Refusals.{aboveDomain, shortSlice, badLength, lengthPastSlice, notARecord, domain}
 use Rattle.usn_record.specs.Bytes.{leAt}
 use Rattle.usn_record.specs.Layout.{Layout, v2, v3}
 use Rattle.usn_record.specs.Fields.{timestampOf, referenceOf, filenameOf}

@@ -8,7 +8,7 @@ ghost use Rattle.usn_record.specs.Bytes.{leAt};
 ghost use Rattle.usn_record.specs.Fields.{timestampOf, referenceOf, filenameOf};
 use crate::Timestamp;
 use crate::bytes::le_u64;
-use walk::Place;
+use base::Place;
 
 // Ticks of 100 nanoseconds from the start of 1601, where FILETIME begins, to that of 1970.
 const EPOCH_DIFF: u64 = 116_444_736_000_000_000;

@@ -20,8 +20,8 @@ use crate::layout::PARENT_REFERENCE_V3;
 use crate::layout::USN_V2;
 use crate::layout::USN_V3;
 use crate::parse::parse;
-use walk::NOT_A_RECORD;
-use walk::Place;
+use base::NOT_A_RECORD;
+use base::Place;
 
 // Seconds and nanoseconds since 1970.
 pub struct Timestamp {

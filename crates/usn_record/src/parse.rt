@@ -23,11 +23,11 @@ use crate::layout::SHARED;
 use crate::layout::SOURCE_INFO;
 use crate::layout::TIME;
 use crate::layout::USN_MAX_RECORD_SIZE;
-use walk::ABOVE_DOMAIN;
-use walk::BAD_LENGTH;
-use walk::DOMAIN;
-use walk::LENGTH_PAST_SLICE;
-use walk::SHORT_SLICE;
+use base::ABOVE_DOMAIN;
+use base::BAD_LENGTH;
+use base::DOMAIN;
+use base::LENGTH_PAST_SLICE;
+use base::SHORT_SLICE;
 
 // A record whose parent reference is at parent and whose fields from the USN on begin at tail. The layout's numbers are
 // parameters of their own and no struct, so that the compiler makes one function with constant offsets for each version.

@@ -3,7 +3,7 @@ use Prim.Native.Nat.{ℕ, _*_}
 use mathlib.Core.Path.{_≡_}
 use mathlib.Core.Bool.{Bool, true}
 use lib.ListN.{take}
-use Rattle.walk.specs.Lent.{Lent, before, after}
+use Rattle.base.specs.Lent.{Lent, before, after}
 use Rattle.rewind.specs.declared.Rewind.{Rewind}
 use Rattle.usn_lines.specs.Listing.{standing, afterAll, listOf, begins}
 

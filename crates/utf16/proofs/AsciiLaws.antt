@@ -8,7 +8,7 @@ use native.Mathlib.Omega.{arith}
 use borrow.Author.Tests.{lt-ltb, le-ltb, ltb-true}
 use lib.ListN.{length, getD, take, drop}
 use lib.Dec.{ltb}
-use Rattle.walk.proofs.ChoiceLaws.{and-left, and-right}
+use Rattle.base.proofs.ChoiceLaws.{and-left, and-right}
 use Rattle.usn_record.specs.Bytes.{leAt}
 use Rattle.usn_record.proofs.ByteLaws.{read-join, read-lt, read-part}
 use Rattle.utf16.specs.Ascii.{fourAscii}

@@ -7,10 +7,10 @@ use native.Mathlib.Nat.{zero-add}
 use borrow.Author.Tests.{lt-ltb, le-ltb, leb-true, leb-false}
 use lib.ListN.{length}
 use lib.Dec.{leb}
-use Rattle.walk.specs.Outcome.{refused, answered}
-use Rattle.walk.specs.Lists.{overwrite}
-use Rattle.walk.specs.Refusals.{aboveDomain, textFull, domain}
-use Rattle.walk.proofs.ListLaws.{sets-front}
+use Rattle.base.specs.Outcome.{refused, answered}
+use Rattle.base.specs.Lists.{overwrite}
+use Rattle.base.specs.Refusals.{aboveDomain, textFull, domain}
+use Rattle.base.proofs.ListLaws.{sets-front}
 use Rattle.utf16.specs.Decoding.{textOf, decoding}
 use Rattle.utf16.specs.Promise.{Decodes}
 use Rattle.utf16.specs.declared.Decoded.the-variants.{Text, Refused}

@@ -6,7 +6,7 @@ use native.Mathlib.Omega.{arith}
 use borrow.Author.Tests.{lt-ltb, le-ltb, ltb-false}
 use lib.ListN.{length, length-append, set}
 use lib.Dec.{ltb}
-use Rattle.walk.proofs.ChoiceLaws.{cond-cases, cond-two}
+use Rattle.base.proofs.ChoiceLaws.{cond-cases, cond-two}
 use Rattle.utf16.specs.Decimal.{digit, digits, decimal}
 use Rattle.utf16.proofs.PutLaws.{Put, put-as, put-room, put-then}
 

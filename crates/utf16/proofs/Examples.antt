@@ -2,8 +2,8 @@
 -- decimal. Assumes nothing.
 use mathlib.Core.Path.{_≡_, refl}
 use mathlib.Core.List.{[], _∷_}
-use Rattle.walk.specs.Outcome.{refused, answered}
-use Rattle.walk.specs.Refusals.{textFull}
+use Rattle.base.specs.Outcome.{refused, answered}
+use Rattle.base.specs.Refusals.{textFull}
 use Rattle.usn_record.specs.Bytes.{le, leAt}
 use Rattle.utf16.specs.Utf16.{alone, codePoints, unitsAt}
 use Rattle.utf16.specs.Utf8.{utf8}

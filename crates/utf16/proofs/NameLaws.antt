@@ -7,7 +7,7 @@ use native.Mathlib.Omega.{arith}
 use native.Mathlib.Numerals.{towards-suc}
 use lib.ListN.{length, getD, set}
 use lib.Seq.{sets, length-sets}
-use Rattle.walk.proofs.ListLaws.{sets-append}
+use Rattle.base.proofs.ListLaws.{sets-append}
 use Rattle.usn_record.specs.Bytes.{leAt}
 use Rattle.utf16.specs.Utf16.{unitsAt}
 use Rattle.utf16.specs.Utf8.{utf8}

@@ -5,7 +5,7 @@ use mathlib.Core.List.{List, [], _∷_, _++_}
 use native.Mathlib.Omega.{arith}
 use lib.ListN.{length, length-append, set}
 use lib.Seq.{sets, length-sets, set-set, set-comm}
-use Rattle.walk.proofs.ListLaws.{sets-append}
+use Rattle.base.proofs.ListLaws.{sets-append}
 
 -- what every writer ensures: vs, written over l from i on, leaves m and ends at r
 abbrev pub Put : List ℕ → List ℕ → ℕ → ℕ → List ℕ → Type 0

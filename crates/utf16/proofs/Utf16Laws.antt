@@ -7,7 +7,7 @@ use native.Mathlib.Omega.{arith}
 use borrow.Author.Tests.{le-leb, lt-leb, leb-true}
 use lib.ListN.{length}
 use lib.Dec.{leb}
-use Rattle.walk.proofs.ChoiceLaws.{cond-cases, and-false}
+use Rattle.base.proofs.ChoiceLaws.{cond-cases, and-false}
 use Rattle.utf16.specs.Utf16.{isHigh, isLow, isSurrogate, isPair, joined, alone, codePoints, unitsAt}
 
 -- a unit by itself

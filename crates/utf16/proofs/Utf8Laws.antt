@@ -6,7 +6,7 @@ use native.Mathlib.Omega.{arith}
 use borrow.Author.Tests.{lt-ltb, le-ltb}
 use lib.ListN.{length}
 use lib.Dec.{ltb}
-use Rattle.walk.proofs.ChoiceLaws.{cond-cases}
+use Rattle.base.proofs.ChoiceLaws.{cond-cases}
 use Rattle.utf16.specs.Utf8.{trail, utf8}
 
 pub utf8-one : (c : ℕ) → c < 0x80 → utf8 c ≡ c ∷ []

@@ -4,9 +4,9 @@ use mathlib.Core.List.{List}
 use mathlib.Core.Bool.{cond}
 use lib.ListN.{length}
 use lib.Dec.{ltb}
-use Rattle.walk.specs.Outcome.{Outcome, refused, answered}
-use Rattle.walk.specs.Lists.{listAfter}
-use Rattle.walk.specs.Refusals.{aboveDomain, textFull, domain}
+use Rattle.base.specs.Outcome.{Outcome, refused, answered}
+use Rattle.base.specs.Lists.{listAfter}
+use Rattle.base.specs.Refusals.{aboveDomain, textFull, domain}
 use Rattle.utf16.specs.Text.{nameText}
 use Rattle.utf16.specs.declared.Decoded.{Decoded}
 use Rattle.utf16.specs.declared.Decoded.the-variants.{Text, Refused}

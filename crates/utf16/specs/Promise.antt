@@ -3,7 +3,7 @@ use Prim.Native.Nat.{ℕ}
 use mathlib.Core.Path.{_≡_}
 use mathlib.Core.List.{List}
 use lib.ListN.{length}
-use Rattle.walk.specs.Lent.{Lent, before, after}
+use Rattle.base.specs.Lent.{Lent, before, after}
 use Rattle.utf16.specs.Decoding.{outcome, decoding, textAfter}
 use Rattle.utf16.specs.declared.Decoded.{Decoded}
 

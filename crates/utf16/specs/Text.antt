@@ -1,7 +1,7 @@
 -- The text of units, and of a name: a place of UTF-16 in a slice.
 use Prim.Native.Nat.{ℕ, _/_}
 use mathlib.Core.List.{List}
-use Rattle.walk.specs.Lists.{flatten}
+use Rattle.base.specs.Lists.{flatten}
 use Rattle.utf16.specs.Utf16.{codePoints, unitsAt}
 use Rattle.utf16.specs.Utf8.{utf8}
 

@@ -11,9 +11,9 @@ pub mod plain;
 ghost use Rattle.utf16.specs.Promise.{DecodePromise};
 use crate::name::has_room;
 use crate::name::put_name;
-use walk::ABOVE_DOMAIN;
-use walk::DOMAIN;
-use walk::TEXT_FULL;
+use base::ABOVE_DOMAIN;
+use base::DOMAIN;
+use base::TEXT_FULL;
 
 // What decoding answers: how many bytes the text takes, or a refusal's number.
 pub enum Decoded {

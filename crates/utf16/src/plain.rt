@@ -21,6 +21,6 @@ pub fn put_bytes(text: &mut [u8], at: usize, bytes: &[u8]) -> usize
     ensures { λ r. ⌜ r ≡ at + length (now (bytes .entry)) ⌝ }
     ensures { λ _. ⌜ now (text .exit) ≡ sets (now (text .entry)) at (now (bytes .entry)) ⌝ }
 {
-    walk::put_bytes(text, at, bytes);
+    base::put_bytes(text, at, bytes);
     at + bytes.len()
 }

@@ -6,11 +6,11 @@ use mathlib.Core.Bool.{Bool, true, false, cond, _||_}
 use lib.ListN.{length}
 use lib.Dec.{ltb, eqb}
 use borrow.Author.Tests.{lt-ltb, le-ltb}
-use Rattle.walk.specs.Outcome.{Outcome, refused, answered}
-use Rattle.walk.specs.Refusals.{aboveDomain, textFull, domain}
-use Rattle.walk.specs.Words.{number, shortBy}
-use Rattle.walk.proofs.ChoiceLaws.{cond-cases}
-use Rattle.walk.proofs.WordLaws.{Domain}
+use Rattle.base.specs.Outcome.{Outcome, refused, answered}
+use Rattle.base.specs.Refusals.{aboveDomain, textFull, domain}
+use Rattle.base.specs.Words.{number, shortBy}
+use Rattle.base.proofs.ChoiceLaws.{cond-cases}
+use Rattle.base.proofs.WordLaws.{Domain}
 use Rattle.entry_slots.specs.Names.{Lengths}
 use Rattle.chain.specs.Tracing.{inDomain}
 use Rattle.path_text.specs.Decoding.{withText}

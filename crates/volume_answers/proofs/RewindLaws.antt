@@ -2,9 +2,9 @@
 use Prim.Native.Nat.{ℕ}
 use mathlib.Core.Path.{_≡_}
 use mathlib.Core.List.{List, _∷_, _++_}
-use Rattle.walk.specs.Outcome.{Outcome, answered}
-use Rattle.walk.specs.Words.{Row, Answers}
-use Rattle.walk.proofs.WordLaws.{row-out}
+use Rattle.base.specs.Outcome.{Outcome, answered}
+use Rattle.base.specs.Words.{Row, Answers}
+use Rattle.base.proofs.WordLaws.{row-out}
 use Rattle.rewind_records.specs.Turning.{Next, next}
 use Rattle.rewind.specs.declared.Rewind.{Rewind}
 use Rattle.volume_answers.specs.Rewind.{rewindWords, nextWords}

@@ -4,7 +4,7 @@ use mathlib.Core.List.{List}
 use mathlib.Core.Bool.{Bool, _||_}
 use lib.ListN.{length}
 use lib.Dec.{ltb}
-use Rattle.walk.specs.Refusals.{domain}
+use Rattle.base.specs.Refusals.{domain}
 
 -- one of the two is above it
 abbrev pub eitherAbove : List ℕ → List ℕ → Bool

@@ -2,15 +2,15 @@
 ghost use mathlib.Core.Path.{_≡_};
 ghost use Prim.Native.Nat.{_≤_};
 ghost use lib.ListN.{length};
-ghost use Rattle.walk.specs.Words.{AnswerPromise, countWords};
+ghost use Rattle.base.specs.Words.{AnswerPromise, countWords};
 ghost use Rattle.mft_carver.specs.Carve.{statsWords, outcome as carvingOutcome};
 ghost use Rattle.utf16.specs.Decoding.{outcome as decodingOutcome};
 ghost use Rattle.entry_table.specs.Promise.{outcome as storingOutcome};
+use base::words::put_row;
 use entry_table::Stored;
 use mft_carver::MftCarving;
 use mft_carver::MftCarvingStats;
 use utf16::Decoded;
-use walk::words::put_row;
 
 // The words of carving's answer, of decoding's, and of storing's.
 pub const IMAGE_STATS_WORDS: usize = 4;

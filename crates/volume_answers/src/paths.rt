@@ -2,15 +2,15 @@
 ghost use mathlib.Core.Path.{_≡_};
 ghost use Prim.Native.Nat.{_≤_};
 ghost use lib.ListN.{length};
-ghost use Rattle.walk.specs.Words.{AnswerPromise};
+ghost use Rattle.base.specs.Words.{AnswerPromise};
 ghost use Rattle.chain.specs.Tracing.{outcome as chainOutcome};
 ghost use Rattle.path.specs.Written.{outcome as pathOutcome};
 ghost use Rattle.volume_answers.specs.Path.{endNumbers, resolvedWords, writtenWords};
+use base::words::put_row;
 use chain::ChainAnswer;
 use chain::ChainEnd;
 use chain::ResolvedPath;
 use path::PathAnswer;
-use walk::words::put_row;
 
 // The words of a path's answer without text, and with it.
 pub const CHAIN_WORDS: usize = 4;

@@ -3,7 +3,7 @@ ghost use mathlib.Core.Path.{_≡_};
 ghost use mathlib.Core.List.{_∷_};
 ghost use Prim.Native.Nat.{_≤_};
 ghost use lib.ListN.{length};
-ghost use Rattle.walk.specs.Words.{AnswerPromise};
+ghost use Rattle.base.specs.Words.{AnswerPromise};
 ghost use Rattle.rewind.specs.Starting.{startOutcome};
 ghost use Rattle.rewind.specs.Stepping.{outcome as stepOutcome};
 ghost use Rattle.rewind.specs.Written.{writtenOutcome};
@@ -11,14 +11,14 @@ ghost use Rattle.volume_answers.specs.Path.{resolvedWords, writtenWords}
 ghost use Rattle.volume_answers.specs.Rewind.{rewindWords, nextWords};
 use crate::paths::resolved_row;
 use crate::paths::written_row;
+use base::words::put_row;
+use base::words::put_rows;
 use rewind::ChainStep;
 use rewind::NextChain;
 use rewind::NextPath;
 use rewind::PathStep;
 use rewind::Rewind;
 use rewind::Started;
-use walk::words::put_row;
-use walk::words::put_rows;
 
 // The words of a start's answer, and those of the longest answer of a step, a record's, without text and with it.
 pub const START_WORDS: usize = 2;

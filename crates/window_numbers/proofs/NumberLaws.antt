@@ -5,9 +5,9 @@ use mathlib.Core.Bool.{Bool, true, false, not, true≢false, _||_}
 use native.Mathlib.Omega.{arith}
 use lib.Dec.{ltb, eqb}
 use borrow.Author.Tests.{lt-ltb, le-ltb, eq-eqb, ne-eqb, ltb-false, eqb-true}
-use Rattle.walk.specs.Places.{round8}
-use Rattle.walk.specs.Refusals.{aboveDomain, badState, badBuffer}
-use Rattle.walk.proofs.ChoiceLaws.{cond-cases, or-left, or-right}
+use Rattle.base.specs.Places.{round8}
+use Rattle.base.specs.Refusals.{aboveDomain, badState, badBuffer}
+use Rattle.base.proofs.ChoiceLaws.{cond-cases, or-left, or-right}
 use Rattle.window_numbers.specs.Numbers.{windowSize, streamDomain, windowEnd, Numbers, wrongEnd, wrongNumbers, numbersRefusal}
 
 module _ (start end total : ℕ) where

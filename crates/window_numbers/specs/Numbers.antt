@@ -2,8 +2,8 @@
 use Prim.Native.Nat.{ℕ, _+_, _%_, min}
 use mathlib.Core.Bool.{Bool, cond, not, _||_}
 use lib.Dec.{ltb, eqb}
-use Rattle.walk.specs.Places.{round8}
-use Rattle.walk.specs.Refusals.{aboveDomain, badState, badBuffer}
+use Rattle.base.specs.Places.{round8}
+use Rattle.base.specs.Refusals.{aboveDomain, badState, badBuffer}
 
 -- the bytes of a window
 abbrev pub windowSize : ℕ

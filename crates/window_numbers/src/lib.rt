@@ -21,34 +21,34 @@ pub fn refusal(
     ensures { λ r. ⌜ r ≡ numbersRefusal (numbersOf start position end held total) «buffer_length» ⌝ }
 {
     if STREAM_DOMAIN < total {
-        return walk::ABOVE_DOMAIN;
+        return base::ABOVE_DOMAIN;
     }
     if buffer_length != WINDOW_SIZE {
-        return walk::BAD_BUFFER;
+        return base::BAD_BUFFER;
     }
     if total < end {
-        return walk::BAD_STATE;
+        return base::BAD_STATE;
     }
     if wrong_end(start, end, total) {
-        return walk::BAD_STATE;
+        return base::BAD_STATE;
     }
     if start % 8 != 0 {
-        return walk::BAD_STATE;
+        return base::BAD_STATE;
     }
     if position % 8 != 0 {
-        return walk::BAD_STATE;
+        return base::BAD_STATE;
     }
     if position < start {
-        return walk::BAD_STATE;
+        return base::BAD_STATE;
     }
     if (end + 7) / 8 * 8 < position {
-        return walk::BAD_STATE;
+        return base::BAD_STATE;
     }
     if end < start {
-        return walk::BAD_STATE;
+        return base::BAD_STATE;
     }
     if end - start < held {
-        return walk::BAD_STATE;
+        return base::BAD_STATE;
     }
     0
 }

@@ -37,7 +37,7 @@ use denote.Triple.Spec.{Meets, tripleOf}
 use denote.Triple.Table.{entered, cited}
 use denote.Triple.Walked.{says, Stays, gave-slice, stay-none-slice, stay-none, walkOf, Walks, ends-at, walked, goes-gave-slice, goes-none-slice, goes-none, walk-meets}
 use denote.Exit.{yes}
-use Rattle.walk.specs.Outcome.{Outcome}
+use Rattle.base.specs.Outcome.{Outcome}
 use Rattle.mft_carver.specs.declared.CarvedMftEntry.{CarvedMftEntry}
 use Rattle.mft_carver.proofs.CarvedMftEntry as T
 use Rattle.entry_table.specs.declared.Stored.{Stored}

@@ -1,6 +1,6 @@
 -- By whether the words are enough.
 use mathlib.Core.Path.{sym, _∙_}
-use Rattle.walk.specs.Outcome.{mapOutcome}
+use Rattle.base.specs.Outcome.{mapOutcome}
 use Rattle.entry_slots.specs.Slots.{slotsIn}
 use Rattle.entry_slots.specs.Table.{table}
 use Rattle.entry_table.proofs.SeedLaws.{enough-room, left-built, left-plain}

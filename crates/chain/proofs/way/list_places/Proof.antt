@@ -3,7 +3,7 @@ use Prim.Native.Nat.{_≤_}
 use mathlib.Core.Path.{_≡_, _∙_}
 use native.Mathlib.Omega.{arith}
 use borrow.Author.Needs.{needs}
-use Rattle.walk.proofs.ListLaws.{Writing, writing-start, writing-skip, writing-room, writing-row}
+use Rattle.base.proofs.ListLaws.{Writing, writing-start, writing-skip, writing-room, writing-row}
 use Rattle.chain.specs.Chain.{sourceWords}
 use Rattle.chain.specs.Way.{wayPlaces}
 use Rattle.chain.proofs.PlaceLaws.{place-row, listed-none, listed-all}

@@ -3,7 +3,7 @@ use Prim.Native.Nat.{_<_}
 use mathlib.Core.Path.{refl, sym}
 use native.Mathlib.Omega.{arith}
 use lib.ListN.{length}
-use Rattle.walk.specs.Outcome.{answered}
+use Rattle.base.specs.Outcome.{answered}
 use Rattle.entry_slots.proofs.TableLaws.{find-used}
 use Rattle.additions.proofs.StoringLaws.{add-over, add-kept, add-new, add-full}
 use Rattle.entry_slots.proofs.ProbeLaws.{probed-hit, probed-none, probed-last, last-within}

@@ -1,7 +1,7 @@
 -- The counters' words, or the refusal.
 use borrow.Author.Needs.{needs}
 use mathlib.Core.Path.{ap}
-use Rattle.walk.proofs.WordLaws.{row-out}
+use Rattle.base.proofs.WordLaws.{row-out}
 use Rattle.usn_carver.specs.Carve.{outcome}
 use Rattle.usn_carver.specs.Events.{statsWords}
 use Rattle.usn_answers.proofs.carver.put_stats.Statement.{statement}

@@ -1,9 +1,9 @@
 -- The number of records, or the refusal.
 use borrow.Author.Needs.{needs}
 use mathlib.Core.Path.{refl, ap}
-use Rattle.walk.proofs.WordLaws.{row-out}
-use Rattle.walk.specs.Words.{countWords}
-use Rattle.usn_journal.specs.Outcome.{scanOutcome}
+use Rattle.base.proofs.WordLaws.{row-out}
+use Rattle.base.specs.Words.{countWords}
+use Rattle.usn_scan.specs.Outcome.{scanOutcome}
 use Rattle.usn_answers.proofs.journal.put_count.Statement.{statement}
 use Rattle.usn_answers.proofs.journal.put_count.Tie as tie
 

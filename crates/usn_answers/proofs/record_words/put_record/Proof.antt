@@ -1,7 +1,7 @@
 -- The record's words, or the refusal.
 use borrow.Author.Needs.{needs}
 use mathlib.Core.Path.{ap}
-use Rattle.walk.proofs.WordLaws.{row-out}
+use Rattle.base.proofs.WordLaws.{row-out}
 use Rattle.usn_record.specs.Record.{outcome, recordWords}
 use Rattle.usn_answers.proofs.record_words.put_record.Statement.{statement}
 use Rattle.usn_answers.proofs.record_words.put_record.Tie as tie

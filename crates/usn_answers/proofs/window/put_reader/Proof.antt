@@ -1,7 +1,7 @@
 -- The row is the window's.
 use borrow.Author.Needs.{needs}
 use mathlib.Core.Path.{refl}
-use Rattle.walk.proofs.WordLaws.{row-out}
+use Rattle.base.proofs.WordLaws.{row-out}
 use Rattle.usn_answers.specs.Window.{readerWords}
 use Rattle.usn_answers.proofs.window.put_reader.Statement.{statement}
 use Rattle.usn_answers.proofs.window.put_reader.Tie as tie

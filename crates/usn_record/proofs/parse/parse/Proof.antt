@@ -7,7 +7,7 @@ use mathlib.Core.Bool.{true≢false}
 use denote.Ref.{now}
 use mir.Syntax.{w64}
 use mir.ValLaws.{toZ-ofZ}
-use Rattle.walk.specs.Outcome.{answered}
+use Rattle.base.specs.Outcome.{answered}
 use Rattle.usn_record.specs.Layout.{layoutAt}
 use Rattle.usn_record.proofs.RecordLaws.{Accepts, refused-above-domain, refused-short-slice, refused-below-fixed, refused-above-most, refused-past-slice, accepted, assembled}
 use Rattle.usn_record.proofs.parse.parse.Statement.{statement}

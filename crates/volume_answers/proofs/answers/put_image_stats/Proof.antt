@@ -1,7 +1,7 @@
 -- The counters' words, or the refusal.
 use borrow.Author.Needs.{needs}
 use mathlib.Core.Path.{ap}
-use Rattle.walk.proofs.WordLaws.{row-out}
+use Rattle.base.proofs.WordLaws.{row-out}
 use Rattle.mft_carver.specs.Carve.{statsWords, outcome}
 use Rattle.volume_answers.proofs.answers.put_image_stats.Statement.{statement}
 use Rattle.volume_answers.proofs.answers.put_image_stats.Tie as tie

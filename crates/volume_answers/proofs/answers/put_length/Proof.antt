@@ -1,8 +1,8 @@
 -- The text's length, or the refusal.
 use borrow.Author.Needs.{needs}
 use mathlib.Core.Path.{refl, ap}
-use Rattle.walk.specs.Words.{countWords}
-use Rattle.walk.proofs.WordLaws.{row-out}
+use Rattle.base.specs.Words.{countWords}
+use Rattle.base.proofs.WordLaws.{row-out}
 use Rattle.utf16.specs.Decoding.{outcome}
 use Rattle.volume_answers.proofs.answers.put_length.Statement.{statement}
 use Rattle.volume_answers.proofs.answers.put_length.Tie as tie

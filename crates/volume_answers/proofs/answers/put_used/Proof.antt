@@ -1,8 +1,8 @@
 -- The used slots, or the refusal.
 use borrow.Author.Needs.{needs}
 use mathlib.Core.Path.{refl, ap}
-use Rattle.walk.specs.Words.{countWords}
-use Rattle.walk.proofs.WordLaws.{row-out}
+use Rattle.base.specs.Words.{countWords}
+use Rattle.base.proofs.WordLaws.{row-out}
 use Rattle.entry_table.specs.Promise.{outcome}
 use Rattle.volume_answers.proofs.answers.put_used.Statement.{statement}
 use Rattle.volume_answers.proofs.answers.put_used.Tie as tie

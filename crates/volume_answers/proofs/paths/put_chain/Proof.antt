@@ -1,7 +1,7 @@
 -- The path's words, or the refusal.
 use borrow.Author.Needs.{needs}
 use mathlib.Core.Path.{ap}
-use Rattle.walk.proofs.WordLaws.{row-out}
+use Rattle.base.proofs.WordLaws.{row-out}
 use Rattle.chain.specs.Tracing.{outcome}
 use Rattle.volume_answers.specs.Path.{resolvedWords}
 use Rattle.volume_answers.proofs.paths.put_chain.Statement.{statement}

@@ -1,7 +1,7 @@
 -- The state's words, or the refusal.
 use borrow.Author.Needs.{needs}
 use mathlib.Core.Path.{ap}
-use Rattle.walk.proofs.WordLaws.{row-out}
+use Rattle.base.proofs.WordLaws.{row-out}
 use Rattle.rewind.specs.Starting.{startOutcome}
 use Rattle.volume_answers.specs.Rewind.{rewindWords}
 use Rattle.volume_answers.proofs.rewinds.put_start.Statement.{statement}

@@ -1,0 +1,16 @@
+-- The scan of an extract as a C call.
+use Prim.Native.Nat.{ℕ}
+use mathlib.Core.List.{List}
+use lib.ListN.{length}
+use Rattle.base.specs.Outcome.{Outcome}
+use Rattle.base.specs.Words.{afterDomain, countWords}
+use Rattle.base.specs.declared.Place.{Place}
+use Rattle.usn_scan.specs.Outcome.{scan}
+
+-- the scan of s, with lent lists for the records' places and for their number
+abbrev pub journalCall : List ℕ → List ℕ → List ℕ → Outcome (List Place)
+journalCall s list out = afterDomain 1 (length out) (scan s (length list))
+
+-- the number of the records as a word
+abbrev pub journalWords : List Place → List ℕ
+journalWords ps = countWords (length ps)
