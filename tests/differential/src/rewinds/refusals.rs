@@ -9,8 +9,8 @@ use super::runs::{run, Asked};
 use super::whole::unexpected;
 use crate::difference::Finding;
 use crate::library::{ABOVE_DOMAIN, BAD_NUMBERS, DOMAIN, NAME_OUTSIDE, NOT_LISTED, NO_ROOM};
-use crate::paths::index::sizes;
 use crate::paths::edges::under;
+use crate::paths::index::sizes;
 use crate::paths::library::{Sources, SLOT_WORDS};
 use crate::paths::lists::Room;
 use crate::records::layout::V2;
@@ -156,7 +156,11 @@ pub fn runs(above: &[u8]) -> Result<u64, Finding> {
     let all = refusals.map(|refusal| [(refusal, false), (refusal, true)]).concat();
     match met == all.into_iter().collect() {
         true => Ok(cases),
-        false => Err(unexpected("rewind_run", "refused by each of these", &format!("{met:?}"))),
+        false => Err(unexpected(
+            "rewind_run",
+            "refused by each of these",
+            &format!("{met:?}"),
+        )),
     }
 }
 
