@@ -23,16 +23,16 @@ use Rattle.rewind_ffi.proofs.DomainLaws.{run-domain}
 
 -- a start, where x is the outcome of the call that is made when the list takes the words
 module _ (x : Outcome Tables) (s f h n l : List ℕ) where
+  pub starts-indexed-answered : 2 ≤ length l → {t g h′ n′ m : List ℕ} {r : ℕ} → t ≡ firstAfter x s → g ≡ forwardAfter x f → h′ ≡ headsLeft (slotsIn s) (firstOf x) h n
+      → n′ ≡ nextsLeft (slotsIn s) (firstOf x) h n → Answers startWords x l r m → StartCalls (afterDomain 2 (length l) x) s f h n l r t g h′ n′ m
+  starts-indexed-answered q a b c d o =
+      rw (domain-enough x q) (record { start = record { answer = o .answer; first = a; second = b; row = o .row }; heads-are = c; nexts-are = d })
+
   pub starts-indexed-short : {above : Bool} → Domain above x → length l < 2 → {r : ℕ} → r ≡ shortBy above → StartCalls (afterDomain 2 (length l) x) s f h n l r s f h n l
   starts-indexed-short d q {r} g =
       let e = domain-short x d q g in
       let left = left-refused (slotsIn s) (refused r) h n refl in
       rw e (record { start = record { answer = refl; first = refl; second = refl; row = refl }; heads-are = left .0; nexts-are = left .1 })
-
-  pub starts-indexed-answered : 2 ≤ length l → {t g h′ n′ m : List ℕ} {r : ℕ} → t ≡ firstAfter x s → g ≡ forwardAfter x f → h′ ≡ headsLeft (slotsIn s) (firstOf x) h n
-      → n′ ≡ nextsLeft (slotsIn s) (firstOf x) h n → Answers startWords x l r m → StartCalls (afterDomain 2 (length l) x) s f h n l r t g h′ n′ m
-  starts-indexed-answered q a b c d o =
-      rw (domain-enough x q) (record { start = record { answer = o .answer; first = a; second = b; row = o .row }; heads-are = c; nexts-are = d })
 
 -- a run: too few words for its answer, or what the run itself promises
 module _ (journal image records words : List ℕ) (rewind : Rewind) (heads nexts ends text out : List ℕ) where
