@@ -7,7 +7,7 @@ use lib.ListN.{length}
 use lib.Dec.{ltb}
 use Rattle.base.specs.Refusals.{domain}
 use Rattle.base.proofs.WordLaws.{Domain, domain-answered, domain-refused, domain-choice, domain-first}
-use Rattle.mft_carver.specs.Settings.{Settings}
+use Rattle.mft_carver.specs.declared.Settings.{Settings}
 use Rattle.mft_carver.specs.Carve.{stride, entriesIn, carving}
 use Rattle.utf16.specs.Decoding.{textOf, decoding as decodingName}
 use Rattle.entry_slots.specs.Names.{Lengths, lengthsOf, inside, allInside}
