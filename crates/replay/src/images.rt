@@ -1,12 +1,12 @@
 // Images, for the carver, and names, to be decoded.
-use crate::lines::write_count;
-use crate::lines::write_field;
-use crate::lines::write_hex;
-use crate::lines::write_refused;
 use libc::STDOUT_FILENO;
 use mft_carver::MftCarving;
 use mft_carver::MftCarvingStats;
 use mft_carver::carve_mft_entries;
+use recording::lines::write_count;
+use recording::lines::write_field;
+use recording::lines::write_hex;
+use recording::lines::write_refused;
 use utf16::Decoded;
 use utf16::decode_utf16;
 

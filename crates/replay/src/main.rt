@@ -14,9 +14,7 @@
 // A word has eight bytes. The file `stdout` beside src/ holds what the original answered; tests/differential wrote both (--record).
 //
 // Every function here is proved safe.
-mod cases;
 mod images;
-mod lines;
 mod paths;
 mod readers;
 mod records;
@@ -24,10 +22,10 @@ mod rewinds;
 
 ghost use mathlib.Core.Path.{_≡_};
 ghost use lib.ListN.{length};
-use crate::cases::NextCase;
-use crate::cases::case_at;
-use crate::cases::part;
 use libc::STDIN_FILENO;
+use recording::cases::NextCase;
+use recording::cases::case_at;
+use recording::cases::part;
 use usn_record::parse_usn_record_v2;
 use usn_record::parse_usn_record_v3;
 

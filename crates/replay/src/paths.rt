@@ -1,13 +1,13 @@
 // The calls of a program: insertions, seedings, paths and stored names.
-use crate::lines::write_count;
-use crate::lines::write_hex;
-use crate::lines::write_refused;
 use entry_slots::EntryInfo;
 use entry_slots::EntryKey;
 use entry_slots::NamePlace;
 use entry_table::Stored;
 use libc::STDOUT_FILENO;
 use path::PathAnswer;
+use recording::lines::write_count;
+use recording::lines::write_hex;
+use recording::lines::write_refused;
 use usn_record::bytes::le_u64;
 use utf16::Decoded;
 

@@ -1,10 +1,10 @@
 // Journals, for the three readers. The Rust was given full reads; here the window is given five bytes at a time.
 ghost use Prim.Native.Nat.{_≤_};
-use crate::lines::write_count;
-use crate::lines::write_field;
-use crate::lines::write_record;
-use crate::lines::write_refused;
 use libc::STDOUT_FILENO;
+use recording::lines::write_count;
+use recording::lines::write_field;
+use recording::lines::write_record;
+use recording::lines::write_refused;
 use usn_carver::Carving;
 use usn_carver::CarvingStats;
 use usn_carver::carve_usn_records;

@@ -1,6 +1,6 @@
 // Slices, for the parsers.
-use crate::lines::write_record;
 use libc::STDOUT_FILENO;
+use recording::lines::write_record;
 use usn_record::Parsed;
 
 // A line: the record that a slice begins with, or that the parser gives an error.

@@ -1,11 +1,11 @@
 // Rewinds: the records of a journal, over the entries of an image.
-use crate::lines::write_count;
-use crate::lines::write_hex;
-use crate::lines::write_refused;
 use entry_table::Stored;
 use libc::STDOUT_FILENO;
 use mft_carver::MftCarving;
 use mft_carver::carve_mft_entries;
+use recording::lines::write_count;
+use recording::lines::write_hex;
+use recording::lines::write_refused;
 use rewind::NextPath;
 use rewind::PathStep;
 use rewind::Rewind;

@@ -7,25 +7,25 @@ use usn_record::bytes::le_u16;
 use usn_record::bytes::signed_bits;
 
 // A line that no recording has.
-pub(crate) fn write_refused(n: u32) {
+pub fn write_refused(n: u32) {
     write_count(b"refused ", n as u64);
     io::write_all(STDOUT_FILENO, b"\n");
 }
 
 // A word and a number.
-pub(crate) fn write_count(word: &[u8], n: u64) {
+pub fn write_count(word: &[u8], n: u64) {
     io::write_all(STDOUT_FILENO, word);
     io::print_decimal(STDOUT_FILENO, n);
 }
 
 // A number and a space.
-pub(crate) fn write_field(n: u64) {
+pub fn write_field(n: u64) {
     io::print_decimal(STDOUT_FILENO, n);
     io::write_all(STDOUT_FILENO, b" ");
 }
 
 // A line: the fields that the original has, and the units of the name, whose place counts from the start of bytes.
-pub(crate) fn write_record(r: UsnRecord, bytes: &[u8]) {
+pub fn write_record(r: UsnRecord, bytes: &[u8]) {
     write_field(r.mft_entry);
     write_field(r.mft_sequence as u64);
     write_field(r.parent_mft_entry);
@@ -69,7 +69,7 @@ fn write_units(units: &[u8]) {
 }
 
 // A line: the first n bytes of a text in hexadecimal, or a dash.
-pub(crate) fn write_hex(text: &[u8], n: usize) {
+pub fn write_hex(text: &[u8], n: usize) {
     if n == 0 {
         io::write_all(STDOUT_FILENO, b"-");
     }

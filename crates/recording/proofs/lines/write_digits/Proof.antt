@@ -2,8 +2,8 @@
 use Prim.Native.Nat.{_≤_, _-_}
 use native.Mathlib.Omega.{arith}
 use borrow.Author.Needs.{needs}
-use Rattle.replay.proofs.lines.write_digits.Statement.{statement}
-use Rattle.replay.proofs.lines.write_digits.Tie as tie
+use Rattle.recording.proofs.lines.write_digits.Statement.{statement}
+use Rattle.recording.proofs.lines.write_digits.Tie as tie
 
 abbrev Inv-loop : tie.InvT-loop
 Inv-loop text n i₀ i = i ≤ n

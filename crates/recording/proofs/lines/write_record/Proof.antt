@@ -1,8 +1,8 @@
 -- Each field fits a word.
 use borrow.Author.Needs.{needs}
 use native.Mathlib.Omega.{arith}
-use Rattle.replay.proofs.lines.write_record.Statement.{statement}
-use Rattle.replay.proofs.lines.write_record.Tie as tie
+use Rattle.recording.proofs.lines.write_record.Statement.{statement}
+use Rattle.recording.proofs.lines.write_record.Tie as tie
 
 write-field-requires : tie.Need-write-field-requires
 write-field-requires c κs = search needs

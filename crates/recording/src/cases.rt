@@ -1,18 +1,18 @@
 // The cases of a recording.
 ghost use lib.ListN.{length};
-ghost use Rattle.replay.specs.Cases.{Inside};
+ghost use Rattle.recording.specs.Cases.{CaseInside};
 use usn_record::bytes::byte_at;
 use usn_record::bytes::le_u32;
 
 // What stands at an offset of a recording: a case of a kind, with its bytes from start to end, or no more.
-pub(crate) enum NextCase {
+pub enum NextCase {
     Over,
     Case { kind: u8, start: usize, end: usize },
 }
 
 // The case at an offset: a byte, its kind, four bytes, its length, and its bytes. No more where fewer bytes are left.
-pub(crate) fn case_at(cases: &[u8], at: usize) -> NextCase
-    ensures { λ r. ⌜ Inside (length (now (cases .entry))) at r ⌝ }
+pub fn case_at(cases: &[u8], at: usize) -> NextCase
+    ensures { λ r. ⌜ CaseInside (length (now (cases .entry))) at r ⌝ }
 {
     if cases.len() < 5 {
         return NextCase::Over;
@@ -33,7 +33,7 @@ pub(crate) fn case_at(cases: &[u8], at: usize) -> NextCase
 }
 
 // The bytes from start to end, none where these are no offsets of it.
-pub(crate) fn part(bytes: &[u8], start: usize, end: usize) -> &[u8] {
+pub fn part(bytes: &[u8], start: usize, end: usize) -> &[u8] {
     if bytes.len() < end {
         return &bytes[..0];
     }

@@ -1,9 +1,0 @@
--- Where a case that was found lies. Assumes nothing.
-use Prim.Native.Nat.{ℕ, _≤_, _<_}
-use mathlib.Core.Path.{_≡_}
-use Rattle.replay.specs.Cases.{Inside}
-use Rattle.replay.specs.declared.cases.NextCase.{NextCase}
-use Rattle.replay.specs.declared.cases.NextCase.the-variants.{Case}
-
-pub lies : (n at : ℕ) {r : NextCase} {kind start end : ℕ} → r ≡ Case kind start end → Inside n at r → (at < start) × (start ≤ end) × (end ≤ n)
-lies n at e i = rw e at i
