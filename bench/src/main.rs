@@ -1,8 +1,8 @@
 //! Times our calls beside those of the Rust library that they replace, on the same bytes and for the same result.
 //! README.md says how to run it.
 //!
-//! The original's files, the stand-ins for what they lack and the declarations of our library are those of the
-//! differential test.
+//! The original's files, the stand-ins for what they lack and the calls of our library are those of the differential
+//! test, the declarations those of the Rust crate.
 
 mod allocation;
 mod cost;
@@ -43,7 +43,7 @@ mod rewind_library;
 #[path = "../../tests/differential/src/usn/mod.rs"]
 mod usn;
 
-/// The declarations on tables and paths, where those on rewinds look for them.
+/// The calls on tables and paths, where those on rewinds look for them.
 #[path = "../../tests/differential/src/paths"]
 mod paths {
     #[allow(dead_code)]

@@ -22,7 +22,7 @@ const MFT_ENTRY_SIZE: usize = 1024;
 const FIRST_ATTR_LOW: usize = 48;
 // The greatest: 8 bytes and one more are left.
 const FIRST_ATTR_HIGH: usize = 1015;
-// The most attributes that are walked before giving up.
+// The most attributes that are walked.
 const MAX_ATTR_WALK: usize = 20;
 
 // The words of an entry in a list.

@@ -1,5 +1,6 @@
 // Images, for the carver, and names, to be decoded.
 use libc::STDOUT_FILENO;
+use mft_carver::ENTRY_WORDS;
 use mft_carver::MftCarving;
 use mft_carver::MftCarvingStats;
 use mft_carver::carve_mft_entries;
@@ -9,9 +10,6 @@ use recording::lines::write_hex;
 use recording::lines::write_refused;
 use utf16::Decoded;
 use utf16::decode_utf16;
-
-// The words of an entry in the carver's list.
-const ENTRY_WORDS: usize = 9;
 
 pub(crate) fn carve(image: &[u8]) {
     let mut list = [0u64; 576];

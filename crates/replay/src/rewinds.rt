@@ -1,6 +1,7 @@
 // Rewinds: the records of a journal, over the entries of an image.
 use entry_table::Stored;
 use libc::STDOUT_FILENO;
+use mft_carver::ENTRY_WORDS;
 use mft_carver::MftCarving;
 use mft_carver::carve_mft_entries;
 use recording::lines::write_count;
@@ -15,10 +16,8 @@ use rewind::rewind_start;
 use usn_scan::Scanned;
 use usn_scan::parse_usn_journal;
 
-// The words of a record in the scan's list, and of an entry in the carver's.
-const RECORD_WORDS: usize = 2;
-
-const ENTRY_WORDS: usize = 9;
+// The words of a record in the scan's list.
+const PLACE_WORDS: usize = 2;
 
 // Scans the journal, and rewinds what is found.
 pub(crate) fn rewind_journal(journal: &[u8], image: &[u8]) {
@@ -31,13 +30,13 @@ pub(crate) fn rewind_journal(journal: &[u8], image: &[u8]) {
 
 // The first n records of a list, over a table that the image's entries are seeded into.
 fn rewind_listed(journal: &[u8], image: &[u8], list: &[usize], n: usize) {
-    if list.len() / RECORD_WORDS < n {
+    if list.len() / PLACE_WORDS < n {
         return;
     }
     let mut slots = [0u64; 2100];
     let used = seed_carved(journal, image, &mut slots);
     write_count(b"records ", n as u64);
-    rewind_records(journal, image, &list[..n * RECORD_WORDS], &mut slots, used);
+    rewind_records(journal, image, &list[..n * PLACE_WORDS], &mut slots, used);
 }
 
 // Carves the image; the used slots after its entries.

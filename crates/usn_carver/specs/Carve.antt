@@ -16,7 +16,7 @@ use Rattle.base.specs.Walk.{Visit, stop, go, from}
 use Rattle.base.specs.declared.Place.{Place}
 use Rattle.usn_record.specs.Bytes.{leAt}
 use Rattle.usn_record.specs.Layout.{Layout, v2, v3}
-use Rattle.usn_record.specs.Record.{maxRecord}
+use Rattle.usn_record.specs.Record.{maxRecord, majorAt}
 use Rattle.usn_carver.specs.Settings.{Settings}
 use Rattle.usn_carver.specs.Events.{Event, structure, time, rejected, carved, records, statsOf}
 use Rattle.usn_carver.specs.declared.Carving.{Carving}
@@ -67,7 +67,7 @@ carverVisitAs st l s o = cond (isCandidate l (length s) o (leAt 4 s o)) (judged 
 -- a visit of o, while 8 bytes fit: four zero bytes move on 8, and so does a version other than 2 and 3
 unfoldable pub carverVisit : Settings → List ℕ → ℕ → Visit Event
 carverVisit st s o =
-    let version = leAt 2 s (o + 4) in
+    let version = majorAt s o in
     cond (ltb (length s) (o + 8)) stop
     (cond (eqb (leAt 4 s o) 0) (go [] (o + 8))
     (cond (eqb version 2) (carverVisitAs st v2 s o)

@@ -16,9 +16,16 @@ use Rattle.usn_record.specs.declared.UsnRecord.{UsnRecord}
 use Rattle.usn_record.specs.declared.Parsed.{Parsed}
 use Rattle.usn_record.specs.declared.Parsed.the-variants.{Record, Refused}
 
--- the largest record
+-- the smallest record of any version, one of version 4, and the largest
+abbrev pub minRecord : ℕ
+minRecord = 56
+
 abbrev pub maxRecord : ℕ
 maxRecord = 65536
+
+-- the version field of the record at o of s
+abbrev pub majorAt : List ℕ → ℕ → ℕ
+majorAt s o = leAt 2 s (o + 4)
 
 -- up to where a name may go
 abbrev pub nameEnd : Layout → List ℕ → ℕ
@@ -66,7 +73,7 @@ asListed = refusedAs notARecord
 unfoldable pub listed : List ℕ → ℕ → Outcome UsnRecord
 listed s o =
     let n = leAt 4 s o in
-    let version = leAt 2 s (o + 4) in
+    let version = majorAt s o in
     cond (ltb (length s) (o + 8)) (refused notARecord)
     (cond (ltb (length s) (o + n)) (refused notARecord)
     (cond (eqb version 2) (asListed (parsed v2 (part s o n)))

@@ -4,6 +4,7 @@ use mathlib.Core.List.{List}
 use Rattle.usn_record.specs.Bytes.{leAt}
 use Rattle.usn_record.specs.Layout.{Layout, layoutOf}
 use Rattle.usn_record.specs.Fields.{referenceOf}
+use Rattle.usn_record.specs.Record.{majorAt}
 use Rattle.usn_record.specs.declared.UsnRecord.{UsnRecord}
 use Rattle.usn_record.specs.declared.references.References.{References}
 
@@ -17,7 +18,7 @@ referencesBy l s o =
 
 -- by the version field there: 2, or otherwise as 3
 unfoldable pub referencesAt : List ℕ → ℕ → References
-referencesAt s o = referencesBy (layoutOf (leAt 2 s (o + 4))) s o
+referencesAt s o = referencesBy (layoutOf (majorAt s o)) s o
 
 -- those that a record was parsed with
 abbrev pub referencesOf : UsnRecord → References

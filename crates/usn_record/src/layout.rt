@@ -39,5 +39,8 @@ pub const USN_V2_MIN_SIZE: usize = USN_V2 + SHARED;
 
 pub const USN_V3_MIN_SIZE: usize = USN_V3 + SHARED;
 
+// The smallest record of any version, one of version 4.
+pub const USN_V4_MIN_SIZE: usize = 56;
+
 // The largest record.
 pub const USN_MAX_RECORD_SIZE: usize = 65536;

@@ -15,9 +15,9 @@ use Rattle.base.proofs.ChoiceLaws.{cond-cases, or-left, or-right}
 use Rattle.base.proofs.WalkLaws.{Forward, Left, left}
 use Rattle.usn_record.specs.Bytes.{leAt}
 use Rattle.usn_record.specs.Layout.{v2, v3}
-use Rattle.usn_record.specs.Record.{maxRecord}
+use Rattle.usn_record.specs.Record.{minRecord, maxRecord}
 use Rattle.usn_record.specs.Names.{fixedOf}
-use Rattle.usn_scan.specs.Scan.{Kind, end, word, usnRecord, rangeRecord, minRecord, kindByVersion, kindOf, Event, recorded, ranged, scanVisitAs, versionAt, kindAt, scanVisit, recordPlaces, scanned}
+use Rattle.usn_scan.specs.Scan.{Kind, end, word, usnRecord, rangeRecord, kindByVersion, kindOf, Event, recorded, ranged, scanVisitAs, versionAt, kindAt, scanVisit, recordPlaces, scanned}
 use Rattle.usn_scan.specs.Step.{scanVisitOf}
 use Rattle.usn_scan.specs.declared.step.ScanStep.{ScanStep}
 

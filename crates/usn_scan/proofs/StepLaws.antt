@@ -14,10 +14,10 @@ use Rattle.base.specs.Walk.{Visit, stop, go}
 use Rattle.base.proofs.AgreeLaws.{part-lent}
 use Rattle.usn_record.specs.Bytes.{leAt}
 use Rattle.usn_record.specs.Layout.{Layout, v2, v3}
-use Rattle.usn_record.specs.Record.{maxRecord, parsed}
+use Rattle.usn_record.specs.Record.{minRecord, maxRecord, parsed}
 use Rattle.usn_record.specs.declared.UsnRecord.{UsnRecord}
 use Rattle.usn_record.proofs.RecordLaws.{FieldsInside, v2-inside, v3-inside, part-accepted}
-use Rattle.usn_scan.specs.Scan.{minRecord, usnRecord, kindByVersion, kindOf, Event, ranged, scanVisitAs, versionAt, scanVisit}
+use Rattle.usn_scan.specs.Scan.{usnRecord, kindByVersion, kindOf, Event, ranged, scanVisitAs, versionAt, scanVisit}
 use Rattle.usn_scan.specs.Step.{Lying, parsedVisit}
 
 -- the visit of n bytes that lie inside, by the version field

@@ -9,7 +9,7 @@ use Rattle.base.specs.Walk.{Visit, stop, go, from}
 use Rattle.base.specs.declared.Place.{Place}
 use Rattle.usn_record.specs.Bytes.{leAt}
 use Rattle.usn_record.specs.Layout.{v2, v3}
-use Rattle.usn_record.specs.Record.{maxRecord}
+use Rattle.usn_record.specs.Record.{minRecord, maxRecord, majorAt}
 
 -- what stands at an offset: the scan's end, a word of 8 bytes that is no record, a record of version 2 or 3, or one of version 4, which
 -- tracks changed ranges
@@ -18,10 +18,6 @@ pub data Kind : Type 0 where
   word : Kind
   usnRecord : Kind
   rangeRecord : Kind
-
--- the smallest record of any version
-abbrev pub minRecord : ℕ
-minRecord = 56
 
 -- a record of n bytes that lies inside the extract, by its version field v: 2 and 3 want their fixed part, and every number but 2, 3 and
 -- 4 is no record
@@ -52,9 +48,9 @@ scanVisitAs o n word = go [] (o + 8)
 scanVisitAs o n usnRecord = go (recorded (record { offset = o; length = n }) ∷ []) (o + round8 n)
 scanVisitAs o n rangeRecord = go (ranged (record { offset = o; length = n }) ∷ []) (o + round8 n)
 
--- what stands at o of an extract s: its length field is the 4 bytes there, its version field the 2 bytes after them
+-- what stands at o of an extract s, by its length field, the 4 bytes there, and its version field
 abbrev pub versionAt : List ℕ → ℕ → ℕ
-versionAt s o = leAt 2 s (o + 4)
+versionAt s o = majorAt s o
 
 abbrev pub kindAt : List ℕ → ℕ → Kind
 kindAt s o = kindOf (length s - o) (leAt 4 s o) (versionAt s o)

@@ -8,9 +8,9 @@ use Rattle.base.specs.Places.{round8}
 use Rattle.base.specs.Refusals.{domain}
 use Rattle.base.specs.Walk.{Visit, stop, go}
 use Rattle.usn_record.specs.Bytes.{leAt}
-use Rattle.usn_record.specs.Record.{maxRecord}
+use Rattle.usn_record.specs.Record.{minRecord, maxRecord}
 use Rattle.usn_record.specs.declared.UsnRecord.{UsnRecord}
-use Rattle.usn_scan.specs.Scan.{minRecord, usnRecord, Event, recorded, ranged, scanVisitAs}
+use Rattle.usn_scan.specs.Scan.{usnRecord, Event, recorded, ranged, scanVisitAs}
 use Rattle.usn_scan.specs.declared.step.ScanStep.{ScanStep}
 use Rattle.usn_scan.specs.declared.step.ScanStep.the-variants.{Stop, Move, Record, Range}
 

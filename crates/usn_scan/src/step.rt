@@ -14,11 +14,9 @@ use usn_record::layout::MAJOR_VERSION;
 use usn_record::layout::USN_MAX_RECORD_SIZE;
 use usn_record::layout::USN_V2_MIN_SIZE;
 use usn_record::layout::USN_V3_MIN_SIZE;
+use usn_record::layout::USN_V4_MIN_SIZE;
 use usn_record::parse_usn_record_v2;
 use usn_record::parse_usn_record_v3;
-
-// The smallest record of any version.
-const USN_V4_MIN_SIZE: usize = 56;
 
 // What a visit says: stop, go on at the next offset, or the place of a record and the offset past it. A version 4 record tracks
 // changed ranges and is a range.
