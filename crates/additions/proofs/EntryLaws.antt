@@ -23,9 +23,9 @@ use Rattle.additions.specs.Entries.{hasReason, fromJournal, entryFrom, e
 use Rattle.additions.specs.declared.entries.RecordEntry.{RecordEntry}
 
 -- a reason is asked for by a division
-pub reason-told : (bit reasons : ℕ) → eqb (reasons / bit % 2) 1 ≡ hasReason bit reasons
+pub reason-tested : (bit reasons : ℕ) → eqb (reasons / bit % 2) 1 ≡ hasReason bit reasons
 unfolding hasReason
-reason-told bit reasons = refl
+reason-tested bit reasons = refl
 
 -- what a listed record's name place comes to
 pub name-empty : (o : ℕ) (p : Place) → p .length ≡ 0 → fromJournal emptyPlace ≡ fromJournal (placeFrom o p)
@@ -40,8 +40,8 @@ answered-mapped : {A B : Type 0} (f : A → B) (x : Outcome A) → isAnswered x 
 answered-mapped f (refused n) = refl
 answered-mapped f (answered a) = refl
 
-pub record-told : (s : List ℕ) (o : ℕ) {r : Bool} → r ≡ isAnswered (listed s o) → r ≡ isAnswered (entryAt s o)
-record-told s o e = e ∙ answered-mapped (entryFrom o) (listed s o)
+pub record-tested : (s : List ℕ) (o : ℕ) {r : Bool} → r ≡ isAnswered (listed s o) → r ≡ isAnswered (entryAt s o)
+record-tested s o e = e ∙ answered-mapped (entryFrom o) (listed s o)
 
 module _ (s : List ℕ) (o : ℕ) {p : Parsed} (e : outcome p ≡ listed s o) where
   module _ {m : ℕ} (g : p ≡ Refused m) where

@@ -4,7 +4,7 @@ use mathlib.Core.List.{List}
 use mathlib.Core.Bool.{false}
 use lib.ListN.{length, getD}
 use Rattle.base.specs.Outcome.{Outcome}
-use Rattle.mft_carver.specs.Carve.{stride}
+use Rattle.mft_carver.specs.Carve.{entryStride}
 use Rattle.mft_carver.specs.declared.CarvedMftEntry.{CarvedMftEntry}
 use Rattle.entry_slots.specs.Names.{Lengths}
 use Rattle.entry_slots.specs.Slots.{keyIn, rows}
@@ -16,7 +16,7 @@ use Rattle.entry_slots.specs.declared.EntryInfo.{EntryInfo}
 
 -- the words of a carved entry: offset, entry number, sequence, name offset, name length, parent entry, parent sequence, directory, in use
 abbrev pub row : ℕ
-row = stride
+row = entryStride
 
 -- the source of its name: the image
 abbrev pub imageSource : ℕ

@@ -11,20 +11,20 @@ use borrow.Author.Tests.{lt-ltb, le-ltb}
 use Rattle.base.specs.Lists.{listAfter}
 use Rattle.base.specs.Outcome.{Outcome, refused, answered, mapOutcome}
 use Rattle.base.specs.Refusals.{aboveDomain, listFull}
-use Rattle.base.specs.Words.{number, withRoom, shortBy, afterDomain, Row, Answers, Lists}
+use Rattle.base.specs.Words.{number, withRoom, shortBy, afterDomain, RowOut, Answers, Lists}
 use Rattle.base.proofs.ChoiceLaws.{cond-cases}
 use Rattle.base.proofs.ListLaws.{sets-front, sets-append}
 
-pub row-put : (words l : List ℕ) → length words ≤ length l → {m : List ℕ} → m ≡ sets l 0 words → Row words l 0 m
+pub row-put : (words l : List ℕ) → length words ≤ length l → {m : List ℕ} → m ≡ sets l 0 words → RowOut words l 0 m
 row-put words l h e = record { answer = refl; row = e ∙ sets-front l words h }
 
-pub rows-put : (front rest l : List ℕ) → length front + length rest ≤ length l → {m n : List ℕ} → m ≡ sets l 0 front → n ≡ sets m (length front) rest → Row (front ++ rest) l 0 n
+pub rows-put : (front rest l : List ℕ) → length front + length rest ≤ length l → {m n : List ℕ} → m ≡ sets l 0 front → n ≡ sets m (length front) rest → RowOut (front ++ rest) l 0 n
 rows-put front rest l h e f =
     row-put (front ++ rest) l (simp length-append h) (f ∙ rw e (ap (λ (i : ℕ). sets (sets l 0 front) i rest) (sym (zero-add (length front))) ∙ sym (sets-append l 0 front rest)))
 
 -- an outcome goes out: a row that is its words, or its refusal's number
 module _ {A : Type 0} (words : A → List ℕ) {x : Outcome A} {l : List ℕ} where
-  pub row-out : {a : A} → x ≡ answered a → {row : List ℕ} → row ≡ words a → {m : List ℕ} {r : ℕ} → Row row l r m → Answers words x l r m
+  pub row-out : {a : A} → x ≡ answered a → {row : List ℕ} → row ≡ words a → {m : List ℕ} {r : ℕ} → RowOut row l r m → Answers words x l r m
   row-out e f w = rw e (record { answer = w .answer; row = rw f at (w .row) })
 
   pub refused-out : {n : ℕ} → x ≡ refused n → Answers words x l n l

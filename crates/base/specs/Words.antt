@@ -36,15 +36,15 @@ unlessRefused (refused n) b b′ = b
 unlessRefused (answered a) b b′ = b′
 
 -- a row of words that is an answer
-pub record Row (words out : List ℕ) (r : ℕ) (out′ : List ℕ) : Type 0 where
+pub record RowOut (words out : List ℕ) (r : ℕ) (out′ : List ℕ) : Type 0 where
   pub answer : r ≡ 0
   pub row : out′ ≡ overwrite out words
 
 abbrev pub RowPromise : Lent → Lent → ℕ → Type 0
-RowPromise words out r = Row (before words) (before out) r (after out)
+RowPromise words out r = RowOut (before words) (before out) r (after out)
 
 abbrev pub RowsPromise : Lent → Lent → Lent → ℕ → Type 0
-RowsPromise front rest out r = Row (before front ++ before rest) (before out) r (after out)
+RowsPromise front rest out r = RowOut (before front ++ before rest) (before out) r (after out)
 
 -- an answer: its number, and its words
 pub record Answers {A : Type 0} (words : A → List ℕ) (o : Outcome A) (out : List ℕ) (r : ℕ) (out′ : List ℕ) : Type 0 where

@@ -201,9 +201,9 @@ module _ (t : Table) (n : ℕ) (k : EntryKey) (way : List ℕ) (bound : ℕ) (as
           }
 
 -- what a way hangs under, by the key above it
-pub end-told : (words way : List ℕ) (n : ℕ) (k : EntryKey) {j : EntryKey} {e : ChainEnd} → e ≡ endUnder n j → j ≡ topKey words way n k → e ≡ endBy words way n k
+pub end-is : (words way : List ℕ) (n : ℕ) (k : EntryKey) {j : EntryKey} {e : ChainEnd} → e ≡ endUnder n j → j ≡ topKey words way n k → e ≡ endBy words way n k
 unfolding endBy
-end-told words way n k x y = x ∙ ap (endUnder n) y
+end-is words way n k x y = x ∙ ap (endUnder n) y
 
 -- the whole way of a key
 pub risen-below : (t : Table) (k : EntryKey) (way : List ℕ) {r : ℕ} {way′ : List ℕ} → Rises t levels k way 0 r way′ → Below (t .used) way′ r

@@ -17,14 +17,14 @@ abbrev pub reference : ℕ → ℕ → List ℕ
 reference entry sequence = le 6 entry ++ le 2 sequence
 
 -- the first 8 bytes of a record: its length, its major version, and minor version 0
-abbrev pub header : ℕ → ℕ → List ℕ
-header length version = le 4 length ++ le 2 version ++ le 2 0
+abbrev pub recordHeader : ℕ → ℕ → List ℕ
+recordHeader length version = le 4 length ++ le 2 version ++ le 2 0
 
 -- E with another time and another name offset: length 64, version 2.0, file 42:3, parent 5:5, USN 4096, reason 100h, source 0, security 0, attributes 20h,
 -- name length 4, units 61h 62h
 abbrev pub timed : ℕ → ℕ → List ℕ
 timed time nameOffset =
-    header 64 2
+    recordHeader 64 2
     ++ reference 42 3
     ++ reference 5 5
     ++ le 8 4096

@@ -12,7 +12,7 @@ use Rattle.usn_carver.specs.Events.{statsWords}
 use Rattle.usn_carver.specs.Carve.{carvedPlaces, statsIn, carving}
 use Rattle.usn_window.specs.Journal.{WindowStep, over, onto, stepAt, windowList}
 use Rattle.known.specs.Case.{Case}
-use Rattle.known.specs.Bytes.{header, timed, recordE}
+use Rattle.known.specs.Bytes.{recordHeader, timed, recordE}
 
 -- what the scan (1), the window (2) and the carver (3) list of an extract. A row is given that number and what its extract is made of.
 abbrev pub scans : ℕ → List ℕ → List ℕ → List ℕ → Case
@@ -49,7 +49,7 @@ stepNext (onto ps p e) = p ∷ []
 
 -- P4: a length of 48, with version 9: the scan (1) moves 8, the window (2) 48
 abbrev pub rubbish : ℕ → ℕ → List ℕ
-rubbish n version = header n version ++ replicate 40 0
+rubbish n version = recordHeader n version ++ replicate 40 0
 
 abbrev pub scanMoves : ℕ → ℕ → ℕ → Case
 scanMoves n version to = record { of = 4; given = 1 ∷ n ∷ version ∷ []; says = visitNext (scanVisit (rubbish n version) 0); known = to ∷ [] }
@@ -63,7 +63,7 @@ moves = scanMoves 48 9 8 ∷ windowMoves 48 9 48 ∷ []
 
 -- P5: a header whose length passes the end, and then E: the carver alone finds it
 abbrev pub hidden : ℕ → ℕ → List ℕ
-hidden n version = header n version ++ recordE
+hidden n version = recordHeader n version ++ recordE
 
 abbrev pub claimed : (ℕ → List ℕ → List ℕ → List ℕ → Case) → ℕ → ℕ → List ℕ → Case
 claimed reader n version known = reader 5 (n ∷ version ∷ []) (hidden n version) known

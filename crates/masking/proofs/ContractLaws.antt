@@ -89,21 +89,21 @@ module _ (s : Sources) (st : State) (i : ℕ) where
   unfolding nextResult
   next-is r words′ list′ h =
       let o = stepped (s .journal) (s .image) (s .records) (keptAt i st .words) (rewindOf (keptAt i st)) in
-      record { whole = refl; told-is = h .answer ∙ told-step o; leaves = rw (h .state, h .forward, h .places) refl }
+      record { whole = refl; answer-is = h .answer ∙ text-step o; leaves = rw (h .state, h .forward, h .places) refl }
     where
-      told-step : (o : Outcome (Next Step)) → stepAnswer o ≡ mapOutcome pathOf (mapOutcome step o)
-      told-step (refused n) = refl
-      told-step (answered x) = refl
+      text-step : (o : Outcome (Next Step)) → stepAnswer o ≡ mapOutcome pathOf (mapOutcome step o)
+      text-step (refused n) = refl
+      text-step (answered x) = refl
 
   pub next-text-is : NextTextIs s st i
   unfolding nextResult
   next-text-is text r words′ list′ text′ h =
       let o = steppedWithText (s .journal) (s .image) (s .records) (keptAt i st .words) (rewindOf (keptAt i st)) (length text) in
-      record { whole = refl; told-is = h .answer ∙ told-step o; leaves = rw (h .state, h .forward, h .places) refl }
+      record { whole = refl; answer-is = h .answer ∙ text-step o; leaves = rw (h .state, h .forward, h .places) refl }
     where
-      told-step : (o : Outcome (Next Step)) → writtenAnswer (s .journal) (s .image) o ≡ mapOutcome (pathTextOf (s .journal) (s .image)) (mapOutcome step o)
-      told-step (refused n) = refl
-      told-step (answered x) = refl
+      text-step : (o : Outcome (Next Step)) → writtenAnswer (s .journal) (s .image) o ≡ mapOutcome (pathTextOf (s .journal) (s .image)) (mapOutcome step o)
+      text-step (refused n) = refl
+      text-step (answered x) = refl
 
 -- the window's calls
 pub window-is : WindowListsAreCalls

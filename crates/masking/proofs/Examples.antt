@@ -40,7 +40,7 @@ use Rattle.mft_carver.specs.Entry.{hasSignature, judged as entryJudged}
 use Rattle.mft_carver.specs.Carve.{imageVisit, carving as imageCarving, carvingList as imageList}
 use Rattle.mft_carver.specs.Settings.{standard as imageStandard}
 use Rattle.mft_carver.specs.Masking.{carvedEntries}
-use Rattle.mft_carver.specs.Sample.{header, beforeName, abc, last}
+use Rattle.mft_carver.specs.Sample.{sampleEntryHeader, beforeName, abc, last}
 use Rattle.utf16.specs.Utf16.{alone, codePoints, unitsAt}
 use Rattle.utf16.specs.Utf8.{utf8}
 use Rattle.utf16.specs.Text.{decoded}
@@ -94,7 +94,7 @@ unfolding imageCarving from walk imageVisit hasSignature entryJudged filenameIn 
 image-names = refl
 
 pub images-masked : Masked (image abc) (image xyz) (imageNames (image abc) entries)
-images-masked = rw image-names (masked-middle (header 3 48 ++ leBytes 4 42 ++ beforeName 1) abc xyz (last ++ replicate 876 0) refl)
+images-masked = rw image-names (masked-middle (sampleEntryHeader 3 48 ++ leBytes 4 42 ++ beforeName 1) abc xyz (last ++ replicate 876 0) refl)
 
 -- the name of the one record
 abbrev pub name : List Place

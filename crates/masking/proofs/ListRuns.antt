@@ -37,7 +37,7 @@ use Rattle.mft_attributes.specs.Filename.{replaces, keep}
 use Rattle.mft_attributes.specs.Attributes.{given, attributeAt, filenameIn, attributeVisit}
 use Rattle.mft_carver.specs.Entry.{hasSignature, judged as entryJudged}
 use Rattle.mft_carver.specs.Carve.{imageVisit, carving as imageCarving}
-use Rattle.mft_carver.specs.Sample.{header as entryHeader, beforeName, last}
+use Rattle.mft_carver.specs.Sample.{sampleEntryHeader as entryHeader, beforeName, last}
 use Rattle.mft_carver.specs.Settings.{standard as imageStandard}
 use Rattle.mft_carver.specs.Carve.{carvingList as imageList}
 use Rattle.base.specs.Refusals.{listFull}

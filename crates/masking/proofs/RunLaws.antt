@@ -54,8 +54,8 @@ module _ (s : Sources) (tables : List Kept) (i : ℕ) (inside : i < length table
   stands : (q : Run) → keptAt i (stand q) ≡ kept (q .words) (q .rewind .used) (q .rewind .position)
   stands q = getD-set-same tables i (kept (q .words) (q .rewind .used) (q .rewind .position)) (kept [] 0 0) inside
 
-  abbrev toldFrom : Run → Outcome (Next Step)
-  toldFrom q = steppedWithText (s .journal) (s .image) (s .records) (q .words) (q .rewind) (room - length (q .text))
+  abbrev textFrom : Run → Outcome (Next Step)
+  textFrom q = steppedWithText (s .journal) (s .image) (s .records) (q .words) (q .rewind) (room - length (q .text))
 
   abbrev run : ℕ → Run → Run
   run = running (s .journal) (s .image) (s .records) room
@@ -98,10 +98,10 @@ module _ (s : Sources) (tables : List Kept) (i : ℕ) (inside : i < length table
   goes zero q e = record { gives = omega arith; refuses = e; leaves = refl }
   goes (suc n) q e =
       let m = room - length (q .text) in
-      let f : resultOf s (nextText i m) (stand q) ≡ nextResult i (stand q) (toldFrom q) =
+      let f : resultOf s (nextText i m) (stand q) ≡ nextResult i (stand q) (textFrom q) =
       ap (λ (k : Kept). nextResult i (stand q) (steppedWithText (s .journal) (s .image) (s .records) (k .words) (rewindOf k) m)) (stands q) in
-      let cs = nexts (roomsOn (rooms (s .journal) (s .image) (s .records) room n) (s .journal) (s .image) q (toldFrom q)) in
-      let g : Goes q (run (suc n) q) cs (resultOf s (nextText i m) (stand q)) = rw f (by-one n q (toldFrom q) e (goes n)) in
+      let cs = nexts (roomsOn (rooms (s .journal) (s .image) (s .records) room n) (s .journal) (s .image) q (textFrom q)) in
+      let g : Goes q (run (suc n) q) cs (resultOf s (nextText i m) (stand q)) = rw f (by-one n q (textFrom q) e (goes n)) in
       record { gives = g .gives; refuses = g .refuses; leaves = g .leaves }
 
 -- The nexts give what the run does, and leave what it leaves; a refused run is one next that is refused by the same number.

@@ -6,8 +6,8 @@ use lib.ListN.{replicate}
 use Rattle.base.specs.Masked.{Masked}
 use Rattle.base.specs.declared.Place.{Place}
 use Rattle.usn_record.specs.Bytes.{leBytes}
-use Rattle.usn_record.specs.Sample.{header, reference}
-use Rattle.mft_carver.specs.Sample.{header as entryHeader, beforeName, last}
+use Rattle.usn_record.specs.Sample.{sampleHeader, reference}
+use Rattle.mft_carver.specs.Sample.{sampleEntryHeader as entryHeader, beforeName, last}
 use Rattle.entry_slots.specs.declared.EntryKey.{EntryKey}
 use Rattle.entry_slots.specs.declared.EntryInfo.{EntryInfo}
 use Rattle.entry_slots.specs.declared.NamePlace.{NamePlace}
@@ -28,10 +28,10 @@ fields reason nameOffset =
 
 -- the fixed part of a version 2 record of 64 bytes, and of a version 3 record of 80 bytes, whose name follows
 abbrev pub fixed2 : List ℕ → List ℕ → ℕ → List ℕ
-fixed2 file parent reason = header 64 2 ++ (file ++ (parent ++ fields reason 60))
+fixed2 file parent reason = sampleHeader 64 2 ++ (file ++ (parent ++ fields reason 60))
 
 abbrev pub fixed3 : ℕ → ℕ → ℕ → List ℕ
-fixed3 file parent reason = header 80 3 ++ (leBytes 16 file ++ (leBytes 16 parent ++ fields reason 76))
+fixed3 file parent reason = sampleHeader 80 3 ++ (leBytes 16 file ++ (leBytes 16 parent ++ fields reason 76))
 
 -- an image of one entry, 42:3 in the root, with a name of three units
 abbrev pub image : List ℕ → List ℕ

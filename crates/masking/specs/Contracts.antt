@@ -171,7 +171,7 @@ module _ (s : Sources) (st : State) (i : ℕ) where
   -- the list's outcome is the one that the contract speaks of, chain and all; the call's answer is its names and its end
   pub record NextAs (r : ChainStep) (words′ list′ : List ℕ) (x : Result) : Type 0 where
     pub whole : x .outcome ≡ mapOutcome step (chainOut (s .journal) (s .image) (s .records) (here .words) rewind (st .chain))
-    pub told-is : chainOutcome (r .next) ≡ mapOutcome pathOf (x .outcome)
+    pub answer-is : chainOutcome (r .next) ≡ mapOutcome pathOf (x .outcome)
     pub leaves : x .after ≡ nextLeaves (r .rewind) words′ list′
 
   abbrev pub NextIs : Type 0
@@ -180,18 +180,18 @@ module _ (s : Sources) (st : State) (i : ℕ) where
       → NextAs r words′ list′ (resultOf s (plain (list.next i)) st)
 
   -- a next with text
-  abbrev toldIn : ℕ → Outcome (Next Step)
-  toldIn room = steppedWithText (s .journal) (s .image) (s .records) (here .words) rewind room
+  abbrev textIn : ℕ → Outcome (Next Step)
+  textIn room = steppedWithText (s .journal) (s .image) (s .records) (here .words) rewind room
 
   pub record NextTextAs (room : ℕ) (r : PathStep) (words′ list′ : List ℕ) (x : Result) : Type 0 where
-    pub whole : x .outcome ≡ mapOutcome step (toldIn room)
-    pub told-is : writtenOutcome (r .next) ≡ mapOutcome (pathTextOf (s .journal) (s .image)) (x .outcome)
+    pub whole : x .outcome ≡ mapOutcome step (textIn room)
+    pub answer-is : writtenOutcome (r .next) ≡ mapOutcome (pathTextOf (s .journal) (s .image)) (x .outcome)
     pub leaves : x .after ≡ nextLeaves (r .rewind) words′ list′
 
   abbrev pub NextTextIs : Type 0
   NextTextIs =
       (text : List ℕ) (r : PathStep) (words′ list′ text′ : List ℕ)
-      → PathSteps (s .journal) (s .image) (toldIn (length text)) rewind (here .words) (st .chain) text r words′ list′ text′
+      → PathSteps (s .journal) (s .image) (textIn (length text)) rewind (here .words) (st .chain) text r words′ list′ text′
       → NextTextAs (length text) r words′ list′ (resultOf s (nextText i (length text)) st)
 
   -- A run of steps stands in the list as nexts with text, each with the room that the texts before it leave, up to the one that is refused or finds no

@@ -18,7 +18,7 @@ use Rattle.mft_attributes.specs.Attributes.{attributeVisit}
 use Rattle.mft_carver.specs.Entry.{hasSignature, judged}
 use Rattle.mft_carver.specs.Carve.{imageVisit, statsOf, statsIn, carving}
 use Rattle.mft_carver.specs.Masking.{carvedNames}
-use Rattle.mft_carver.specs.Sample.{header, beforeName, abc, nameAttribute, others, last, sample}
+use Rattle.mft_carver.specs.Sample.{sampleEntryHeader, beforeName, abc, nameAttribute, others, last, sample}
 use Rattle.mft_carver.proofs.ImageTwoRuns.{SameCarving, call-two-runs}
 
 -- A $FILE_NAME attribute of 24 bytes at 48, whose content begins at 98, so that the length of its name would stand at 162: there the name of
@@ -27,7 +27,7 @@ abbrev reaching : List ℕ
 reaching = leBytes 4 fileName ++ leBytes 4 24 ++ replicate 8 0 ++ leBytes 4 66 ++ leBytes 4 50
 
 abbrev front : List ℕ
-front = header 3 48 ++ leBytes 4 42 ++ reaching ++ beforeName 1
+front = sampleEntryHeader 3 48 ++ leBytes 4 42 ++ reaching ++ beforeName 1
 
 abbrev back : List ℕ
 back = last ++ replicate 852 0

@@ -12,7 +12,7 @@ use Rattle.base.proofs.ListLaws.{Writing, writing-start, writing-skip, writing-
 use Rattle.base.proofs.WalkLaws.{Left}
 use Rattle.mft_carver.specs.declared.Settings.{Settings}
 use Rattle.mft_carver.specs.Entry.{Event, rejected, carved}
-use Rattle.mft_carver.specs.Carve.{imageVisit, eventsFrom, events, entries, rejections, statsOf, entriesIn, statsIn, stride, flag, entryWords}
+use Rattle.mft_carver.specs.Carve.{imageVisit, eventsFrom, events, entries, rejections, statsOf, entriesIn, statsIn, entryStride, flag, entryWords}
 use Rattle.mft_carver.specs.Promise.{Fills}
 use Rattle.mft_carver.specs.declared.CarvedMftEntry.{CarvedMftEntry}
 use Rattle.mft_carver.specs.declared.MftCarvingStats.{MftCarvingStats}
@@ -61,7 +61,7 @@ stats-are x size es a b c d =
 
 -- The list was l₀ and is l, and before o the run counted what x says.
 pub record Filling (st : Settings) (s l₀ l : List ℕ) (x : MftCarvingStats) (o : ℕ) : Type 0 where
-  pub written : Writing entryWords stride l₀ l (stride * x .«entries_carved») (entries (eventsFrom st s o)) (entriesIn st s)
+  pub written : Writing entryWords entryStride l₀ l (entryStride * x .«entries_carved») (entries (eventsFrom st s o)) (entriesIn st s)
   pub bytes : x .«bytes_scanned» ≡ length s
   pub candidates : x .«candidates_examined» + length (eventsFrom st s o) ≡ length (events st s)
   pub refusals : x .rejected + rejections (eventsFrom st s o) ≡ rejections (events st s)
@@ -73,7 +73,7 @@ pub filling-start : (st : Settings) (s l : List ℕ) {x : MftCarvingStats} → x
 filling-start st s l e =
     rw e
     (record {
-      written = writing-start entryWords stride l (entriesIn st s);
+      written = writing-start entryWords entryStride l (entriesIn st s);
       bytes = refl;
       candidates = omega arith;
       refusals = omega arith;
@@ -113,10 +113,10 @@ module _ {st : Settings} {s l₀ l : List ℕ} {x : MftCarvingStats} {o : ℕ} (
 
   -- a carved entry has room, and is written
   module _ (y : CarvedMftEntry) (p : ℕ) (w : Left (imageVisit st s) (length s) o (go (carved y ∷ []) p)) where
-    pub filling-room : length (entriesIn st s) ≤ length l₀ / stride → stride * x .«entries_carved» + stride ≤ length l
-    filling-room h = writing-room entryWords stride (λ _. refl) (f .written) (ap entries (w .0)) h
+    pub filling-room : length (entriesIn st s) ≤ length l₀ / entryStride → entryStride * x .«entries_carved» + entryStride ≤ length l
+    filling-room h = writing-room entryWords entryStride (λ _. refl) (f .written) (ap entries (w .0)) h
 
-    pub filling-carved : {row l′ : List ℕ} → row ≡ entryWords y → l′ ≡ sets l (stride * x .«entries_carved») row
+    pub filling-carved : {row l′ : List ℕ} → row ≡ entryWords y → l′ ≡ sets l (entryStride * x .«entries_carved») row
         → Filling st s l₀ l′ (record {
           «bytes_scanned» = x .«bytes_scanned»;
           «candidates_examined» = x .«candidates_examined» + 1;
@@ -124,8 +124,8 @@ module _ {st : Settings} {s l₀ l : List ℕ} {x : MftCarvingStats} {o : ℕ} (
           rejected = x .rejected;
         }) p
     filling-carved g e =
-        let row = writing-row entryWords stride (λ _. refl) (f .written) (ap entries (w .0)) (rw g at e) in
-        let more : stride * x .«entries_carved» + stride ≡ stride * (x .«entries_carved» + 1) = omega arith in
+        let row = writing-row entryWords entryStride (λ _. refl) (f .written) (ap entries (w .0)) (rw g at e) in
+        let more : entryStride * x .«entries_carved» + entryStride ≡ entryStride * (x .«entries_carved» + 1) = omega arith in
         record {
           written = rw more at row;
           bytes = f .bytes;
@@ -144,5 +144,5 @@ module _ {st : Settings} {s l₀ l : List ℕ} {x : MftCarvingStats} {o : ℕ} (
         (omega (arith, f .written .count, counted w))
         (omega (arith, f .refusals, ap rejections w))
 
-    pub filling-end : length (entriesIn st s) ≤ length l₀ / stride → Fills st s l₀ x l
-    filling-end h = record { counters = counters; list-is = writing-end entryWords stride (λ _. refl) (f .written) (ap entries w) h }
+    pub filling-end : length (entriesIn st s) ≤ length l₀ / entryStride → Fills st s l₀ x l
+    filling-end h = record { counters = counters; list-is = writing-end entryWords entryStride (λ _. refl) (f .written) (ap entries w) h }

@@ -52,18 +52,18 @@ within-ends o i p =
     (λ _ w. (w .from, w .to))
 
 -- a candidate at o, of n bytes: its name lies past 66 bytes and inside it
-abbrev Lying : ℕ → ℕ → Event → Type 0
-Lying o n x = (i : ℕ) → (o + fixed ≤ i → i < o + n → ⊥) → Apart (nameOf x) i
+abbrev EventLies : ℕ → ℕ → Event → Type 0
+EventLies o n x = (i : ℕ) → (o + fixed ≤ i → i < o + n → ⊥) → Apart (nameOf x) i
 
-kept-lying : (o n a : ℕ) (h : EntryHeader) (k : Kept) → KeptIs (FilenameLies (a + fixed) n) k → Lying o n (byName o h k)
+kept-lying : (o n a : ℕ) (h : EntryHeader) (k : Kept) → KeptIs (FilenameLies (a + fixed) n) k → EventLies o n (byName o h k)
 kept-lying o n a h Nothing l = λ i out. tt
 kept-lying o n a h (Name f) l =
     λ i out. (λ w. let r = within-ends o i (f .place) w in out (omega (arith, l .begins)) (omega (arith, l .ends)), tt)
 
-judged-lying : (st : Settings) (o : ℕ) (e : List ℕ) → Lying o (length e) (judged st o e)
+judged-lying : (st : Settings) (o : ℕ) (e : List ℕ) → EventLies o (length e) (judged st o e)
 unfolding judged
 judged-lying st o e =
-    cond-cases (Lying o (length e)) (badHeader st (entryHeaderOf e)) (λ _ i out. tt)
+    cond-cases (EventLies o (length e)) (badHeader st (entryHeaderOf e)) (λ _ i out. tt)
     (λ _. kept-lying o (length e) (leAt 2 e 20) (entryHeaderOf e) (filenameIn (st .walked) e (leAt 2 e 20)) (filename-lies (st .walked) e (leAt 2 e 20)))
 
 -- the same of what stands at o

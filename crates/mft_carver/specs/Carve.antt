@@ -65,8 +65,8 @@ abbrev pub statsIn : Settings → List ℕ → MftCarvingStats
 statsIn st s = statsOf (length s) (events st s)
 
 -- the words of an entry in a lent list: a word a field, a name's place two
-abbrev pub stride : ℕ
-stride = 9
+abbrev pub entryStride : ℕ
+entryStride = 9
 
 abbrev pub flag : Bool → ℕ
 flag b = cond b 1 0
@@ -92,7 +92,7 @@ statsWords c = c .«bytes_scanned» ∷ c .«candidates_examined» ∷ c .«entr
 unfoldable pub carving : Settings → List ℕ → ℕ → Outcome MftCarvingStats
 carving st s words =
     cond (ltb domain (length s)) (refused aboveDomain)
-    (cond (ltb (words / stride) (length (entriesIn st s))) (refused listFull)
+    (cond (ltb (words / entryStride) (length (entriesIn st s))) (refused listFull)
     (answered (statsIn st s)))
 
 -- what the lent list l holds after that call

@@ -7,7 +7,7 @@ use Rattle.base.specs.Lent.{Lent, before, after}
 use Rattle.base.specs.Lists.{flatten, overwrite}
 use Rattle.base.specs.Refusals.{domain}
 use Rattle.mft_carver.specs.declared.Settings.{Settings}
-use Rattle.mft_carver.specs.Carve.{outcome, carving, carvingList, entriesIn, statsIn, stride, entryWords}
+use Rattle.mft_carver.specs.Carve.{outcome, carving, carvingList, entriesIn, statsIn, entryStride, entryWords}
 use Rattle.mft_carver.specs.declared.MftCarving.{MftCarving}
 use Rattle.mft_carver.specs.declared.MftCarvingStats.{MftCarvingStats}
 
@@ -23,7 +23,7 @@ CarvePromise st image list r = Carves st (before image) (before list) r (after l
 pub record FillAsks (st : Settings) (image list : List ℕ) : Type 0 where
   pub sized : 1 ≤ st .size
   pub within : length image ≤ domain
-  pub room : length (entriesIn st image) ≤ length list / stride
+  pub room : length (entriesIn st image) ≤ length list / entryStride
 
 -- what it leaves: the counters of the run, and the list
 pub record Fills (st : Settings) (image list : List ℕ) (r : MftCarvingStats) (list′ : List ℕ) : Type 0 where

@@ -8,8 +8,8 @@ use Rattle.mft_attributes.specs.Attributes.{fileName, endMarker}
 use Rattle.mft_carver.specs.Entry.{signature}
 
 -- the first 44 bytes of an entry: a directory in use, with this sequence and its first attribute at first
-abbrev pub header : ℕ → ℕ → List ℕ
-header sequence first = signature ++ replicate 12 0 ++ leBytes 2 sequence ++ leBytes 2 1 ++ leBytes 2 first ++ leBytes 2 3 ++ replicate 20 0
+abbrev pub sampleEntryHeader : ℕ → ℕ → List ℕ
+sampleEntryHeader sequence first = signature ++ replicate 12 0 ++ leBytes 2 sequence ++ leBytes 2 1 ++ leBytes 2 first ++ leBytes 2 3 ++ replicate 20 0
 
 -- what stands before the name in a resident $FILE_NAME attribute of 96 bytes: its header, and its content with parent 5:5 and a name of three units
 abbrev pub beforeName : ℕ → List ℕ
@@ -45,4 +45,4 @@ padded s = s ++ replicate (1024 - length s) 0
 
 -- entry 42, with sequence 3 and these attributes
 abbrev pub sample : List ℕ → List ℕ
-sample attributes = padded (header 3 48 ++ leBytes 4 42 ++ attributes ++ last)
+sample attributes = padded (sampleEntryHeader 3 48 ++ leBytes 4 42 ++ attributes ++ last)

@@ -77,8 +77,8 @@ module _ (journal image : List ℕ) (t : Table) (k : EntryKey) (x l : List ℕ) 
             let z : _≡_ {A = ℕ} 0 1 = cc in
             absurd (omega arith)
 
-    pub path-told : {to : ℕ} → r ≡ To to → {p : ResolvedPath} {m : List ℕ} → p ≡ resolved (chainOf t depth k) → m ≡ withPlaces x (chainOf t depth k .places) → Comes (Path p to) m o
-    path-told {to} f {p} {m} path-is list-is = go (ltb (length l - 0) (length whole)) refl
+    pub path-written : {to : ℕ} → r ≡ To to → {p : ResolvedPath} {m : List ℕ} → p ≡ resolved (chainOf t depth k) → m ≡ withPlaces x (chainOf t depth k .places) → Comes (Path p to) m o
+    path-written {to} f {p} {m} path-is list-is = go (ltb (length l - 0) (length whole)) refl
       where
         go : (b : Bool) → ltb (length l - 0) (length whole) ≡ b → Comes (Path p to) m o
         go true q = let y : To to ≡ Full = sym f ∙ g .answer ∙ rw q in let z : _≡_ {A = ℕ} 0 1 = cc in absurd (omega arith)

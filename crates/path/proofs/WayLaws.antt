@@ -37,33 +37,33 @@ climbed-asks journal image t k g fits names hj hm =
 
 -- The text was l₀ and is l, the next byte goes to `to`, and of the whole that begins at `at` the rest is still to be written: what goes on to be written ends in
 -- the whole.
-pub record Telling (l₀ l : List ℕ) (at to : ℕ) (rest whole : List ℕ) : Type 0 where
+pub record WayText (l₀ l : List ℕ) (at to : ℕ) (rest whole : List ℕ) : Type 0 where
   pub ends : sets l to rest ≡ sets l₀ at whole
   pub same : length l ≡ length l₀
   pub count : to + length rest ≡ at + length whole
 
-pub telling-start : (l₀ : List ℕ) (at : ℕ) (front rest : List ℕ) {whole l : List ℕ} {to : ℕ} → whole ≡ front ++ rest → Put l₀ l at to front → Telling l₀ l at to rest whole
-telling-start l₀ at front rest {whole} {l} {to} e p =
+pub way-text-start : (l₀ : List ℕ) (at : ℕ) (front rest : List ℕ) {whole l : List ℕ} {to : ℕ} → whole ≡ front ++ rest → Put l₀ l at to front → WayText l₀ l at to rest whole
+way-text-start l₀ at front rest {whole} {l} {to} e p =
     record {
       ends = rw (p .1, p .0, e) (sym (sets-append l₀ at front rest));
       same = ap length (p .1) ∙ length-sets l₀ at front;
       count = omega (arith, p .0, ap length e, length-append front rest);
     }
 
-module _ {l₀ l : List ℕ} {at to : ℕ} {rest whole : List ℕ} (w : Telling l₀ l at to rest whole) where
-  pub telling-room : (first more : List ℕ) → rest ≡ first ++ more → at + length whole ≤ length l₀ → to + length first ≤ length l
-  telling-room first more e h = omega (arith, w .count, w .same, ap length e, length-append first more)
+module _ {l₀ l : List ℕ} {at to : ℕ} {rest whole : List ℕ} (w : WayText l₀ l at to rest whole) where
+  pub way-text-room : (first more : List ℕ) → rest ≡ first ++ more → at + length whole ≤ length l₀ → to + length first ≤ length l
+  way-text-room first more e h = omega (arith, w .count, w .same, ap length e, length-append first more)
 
-  pub telling-more : (first more : List ℕ) → rest ≡ first ++ more → {l′ : List ℕ} {to′ : ℕ} → Put l l′ to to′ first → Telling l₀ l′ at to′ more whole
-  telling-more first more e p =
+  pub way-text-more : (first more : List ℕ) → rest ≡ first ++ more → {l′ : List ℕ} {to′ : ℕ} → Put l l′ to to′ first → WayText l₀ l′ at to′ more whole
+  way-text-more first more e p =
       record {
         ends = rw (p .1, p .0) (sym (sets-append l to first more) ∙ ap (sets l to) (sym e) ∙ w .ends);
         same = ap length (p .1) ∙ length-sets l to first ∙ w .same;
         count = omega (arith, p .0, w .count, ap length e, length-append first more);
       }
 
-  pub telling-end : rest ≡ [] → (to ≡ at + length whole) × (l ≡ sets l₀ at whole)
-  telling-end e = (omega (arith, w .count, ap length e), ap (sets l to) (sym e) ∙ w .ends)
+  pub way-text-end : rest ≡ [] → (to ≡ at + length whole) × (l ≡ sets l₀ at whole)
+  way-text-end e = (omega (arith, w .count, ap length e), ap (sets l to) (sym e) ∙ w .ends)
 
 -- a text that has no room for more is left alone, and one that has holds it
 module _ (more text : List ℕ) (at : ℕ) {fits : Bool} (e : fits ≡ leb (length more) (length text - at)) where

@@ -55,13 +55,13 @@ pub record Behinds (more text : List ℕ) (at : ℕ) (r : Behind) (text′ : Lis
   pub written : text′ ≡ cond (passes text at more) text (sets text at more)
 
 module _ (journal image slots way : Lent) (up : Climbed) where
-  abbrev pub chainTold : Chain
-  chainTold = chainBy (before slots) (before way) up
+  abbrev pub chainOfWay : Chain
+  chainOfWay = chainBy (before slots) (before way) up
 
   -- the path of a way, at the front of a text
   abbrev pub FrontPromise : Lent → Behind → Type 0
-  FrontPromise text r = Behinds (pathText (before journal) (before image) chainTold) (before text) 0 r (after text)
+  FrontPromise text r = Behinds (pathText (before journal) (before image) chainOfWay) (before text) 0 r (after text)
 
   -- the path of an entry by its parent's way and its own name
   abbrev pub BehindPromise : NamePlace → Lent → ℕ → Behind → Type 0
-  BehindPromise name text at r = Behinds (entryText (before journal) (before image) chainTold name) (before text) at r (after text)
+  BehindPromise name text at r = Behinds (entryText (before journal) (before image) chainOfWay name) (before text) at r (after text)

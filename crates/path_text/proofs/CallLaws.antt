@@ -60,9 +60,9 @@ module _ (journal image : List ℕ) (p : NamePlace) (l : List ℕ) where
         pub decode-full : {n : ℕ} → n ≡ length (placeText journal image p) → length l < n → Comes′ (decoded.Refused textFull) l
         decode-full f h = unread (text-over (placeText journal image) (length l) placed (rw f at h))
 
-        pub decode-told : {n r : ℕ} {m : List ℕ} → n ≡ length (placeText journal image p) → n ≤ length l → Put l m 0 r (placeText journal image p)
+        pub decode-written : {n r : ℕ} {m : List ℕ} → n ≡ length (placeText journal image p) → n ≤ length l → Put l m 0 r (placeText journal image p)
             → Comes′ (decoded.Text r) m
-        decode-told f h q =
+        decode-written f h q =
             let fits : length (placeText journal image p) ≤ length l = rw f at h in
             let o = text-fits (placeText journal image) (length l) placed fits in
             record { answer = rw o (ap answered (q .0 ∙ zero-add _)); written = rw o (q .1 ∙ sets-front l (placeText journal image p) fits) }

@@ -147,8 +147,8 @@ module _ (journal image l words : List ℕ) (r : Rewind) where
       by-adding = rw is
 
       -- a step with text is what is made of that record: a refusal, or the table with the record in it, where its text has room
-      told-making : (room : ℕ) → steppedWithText journal image l words r room ≡ making journal image t d room
-      told-making room = ap (withText (nextText journal image) room) by-adding
+      text-making : (room : ℕ) → steppedWithText journal image l words r room ≡ making journal image t d room
+      text-making room = ap (withText (nextText journal image) room) by-adding
 
       making-cases : (P : Outcome (Next Step) → Type 0) (room : ℕ) → ((k : ℕ) → P (refused k))
           → ((v : Table) → adding t (forward d ∷ []) ≡ answered v → length (recordText journal image (stepOf depth d v)) ≤ room → P (answered (next (stepOf depth d v))))
@@ -185,7 +185,7 @@ module _ (journal image l words : List ℕ) (r : Rewind) where
         by-made P none some =
             let k : length text - 0 ≡ length text = omega arith in
             let w : Out text m nexts v f h n way x (making journal image t d (length text)) = rw k at c in
-            rw (told-making (length text)) (making-cases (λ o. Out text m nexts v f h n way x o → P o) (length text) none some w)
+            rw (text-making (length text)) (making-cases (λ o. Out text m nexts v f h n way x o → P o) (length text) none some w)
 
         pub made-refused : {k : ℕ} → v ≡ Refused k → ComesText list text (record { next = path.Refused k; rewind = r }) f list x
         made-refused {k} y =

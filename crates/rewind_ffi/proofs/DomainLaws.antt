@@ -84,8 +84,8 @@ module _ (journal image records : List ℕ) where
         let t = table forward used in
         then-domain (turning env t position) (taken t depth) (tested-domain env t (domain-answered _)) (taken-domain t)
 
-    pub told-domain : (room : ℕ) → Domain (eitherAbove journal image) (steppedWithText journal image records forward (rewindOf used position) room)
-    told-domain room = text-domain (nextText journal image) room (stepped journal image records forward (rewindOf used position)) step-domain
+    pub step-text-domain : (room : ℕ) → Domain (eitherAbove journal image) (steppedWithText journal image records forward (rewindOf used position) room)
+    step-text-domain room = text-domain (nextText journal image) room (stepped journal image records forward (rewindOf used position)) step-domain
 
   pub run-domain : (words : List ℕ) (rewind : Rewind) (room asked : ℕ) → Domain (eitherAbove journal image) (testedRun journal image records words rewind room asked)
   unfolding testedRun

@@ -14,7 +14,7 @@ use Rattle.rewind_steps.specs.Taking.{Step}
 use Rattle.rewind.specs.Stepping.{rewindAfter, wordsAfter, chainAfter}
 use Rattle.rewind.specs.declared.Rewind.{Rewind}
 use Rattle.volume_answers.specs.Rewind.{nextWords}
-use Rattle.rewind_ffi.specs.Promise.{Starts, Steps, StepsTold}
+use Rattle.rewind_ffi.specs.Promise.{Starts, Steps, StepsWithText}
 use Rattle.rewind_ffi.specs.Rewind.{startWords, stepWords}
 
 -- x is the outcome where the list takes the words
@@ -44,9 +44,9 @@ module _ (words : Next Step → List ℕ) (n : ℕ) (x : Outcome (Next Step)) (s
   steps-answered h e f o = rw (domain-enough x h) (record { answer = o .answer; table = e; places = f; row = o .row })
 
 module _ (text words : Next Step → List ℕ) (n : ℕ) (x : Outcome (Next Step)) (s c a l : List ℕ) where
-  pub steps-told-short : {above : Bool} → Domain above x → length l < n → {r : ℕ} → r ≡ shortBy above → StepsTold text words (afterDomain n (length l) x) s c a l r s c a l
+  pub steps-told-short : {above : Bool} → Domain above x → length l < n → {r : ℕ} → r ≡ shortBy above → StepsWithText text words (afterDomain n (length l) x) s c a l r s c a l
   steps-told-short d h g = let e = domain-short x d h g in rw e (record { answer = refl; table = refl; places = refl; written = refl; row = refl })
 
   pub steps-told-answered : n ≤ length l → {t d b m : List ℕ} {r : ℕ} → t ≡ wordsAfter x s → d ≡ chainAfter x c → b ≡ listAfter text x a → Answers words x l r m
-      → StepsTold text words (afterDomain n (length l) x) s c a l r t d b m
+      → StepsWithText text words (afterDomain n (length l) x) s c a l r t d b m
   steps-told-answered h e f g o = rw (domain-enough x h) (record { answer = o .answer; table = e; places = f; written = g; row = o .row })

@@ -44,7 +44,7 @@ NextChainCallPromise journal image records rewind forward chain out r =
     Steps (stepWords chainStepWords rewind) o (before forward) (before chain) (before out) r (after forward) (after chain) (after out)
 
 -- with text
-pub record StepsTold (bytes words : Next Step → List ℕ) (o : Outcome (Next Step)) (forward list text out : List ℕ) (r : ℕ) (forward′ list′ text′ out′ : List ℕ) : Type 0 where
+pub record StepsWithText (bytes words : Next Step → List ℕ) (o : Outcome (Next Step)) (forward list text out : List ℕ) (r : ℕ) (forward′ list′ text′ out′ : List ℕ) : Type 0 where
   pub answer : r ≡ number o
   pub table : forward′ ≡ step.wordsAfter o forward
   pub places : list′ ≡ step.chainAfter o list
@@ -54,7 +54,7 @@ pub record StepsTold (bytes words : Next Step → List ℕ) (o : Outcome (Next S
 abbrev pub NextCallPromise : Lent → Lent → Lent → Rewind → Lent → Lent → Lent → Lent → ℕ → Type 0
 NextCallPromise journal image records rewind forward chain text out r =
     let o = pathStepCall (before journal) (before image) (before records) rewind (before forward) (before text) (before out) in
-    StepsTold (nextText (before journal) (before image)) (stepWords (pathStepWords (before journal) (before image)) rewind) o (before forward) (before chain) (before text) (before out) r (after forward) (after chain) (after text) (after out)
+    StepsWithText (nextText (before journal) (before image)) (stepWords (pathStepWords (before journal) (before image)) rewind) o (before forward) (before chain) (before text) (before out) r (after forward) (after chain) (after text) (after out)
 
 -- a start by way of an index: what the start promises, and the words of the index of the first table
 abbrev pub firstOf : Outcome Tables → Outcome Table

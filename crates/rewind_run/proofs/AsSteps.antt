@@ -17,7 +17,7 @@ use Rattle.rewind.specs.Stepping.{wordsAfter, rewindAfter, forwardTable}
 use Rattle.rewind.specs.Written.{steppedWithText}
 use Rattle.rewind.specs.declared.Rewind.{Rewind}
 use Rattle.rewind_run.specs.Running.{Run, runFrom, oneMore, onward, running, ran, testedRun}
-use Rattle.rewind_run.specs.Calls.{roomsOn, rooms, callRooms, calls, Left, left, callsLeave, runLeaves, gathered, gatheredCall}
+use Rattle.rewind_run.specs.Calls.{roomsOn, rooms, callRooms, calls, Left, leaving, callsLeave, runLeaves, gathered, gatheredCall}
 use Rattle.rewind_run.specs.Stopping.{stops}
 use Rattle.rewind_run.proofs.StopLaws.{tests-stop-none, refused-stops}
 
@@ -36,7 +36,7 @@ module _ (journal image records : List ℕ) (room : ℕ) where
   leftOf n r = callsLeave journal image records (roomsOf n r) (r .words) (r .rewind)
 
   abbrev leftBy : Run → Left
-  leftBy r = left (r .words) (r .rewind)
+  leftBy r = leaving (r .words) (r .rewind)
 
   pub as-steps : (n : ℕ) (r : Run) → run n r ≡ gathered journal image r (outcomesOf n r)
   unfolding running rooms calls
@@ -111,7 +111,7 @@ module _ (journal image records words : List ℕ) (r : Rewind) (room asked : ℕ
   unfolding calls
   one e = let f : stops (rewindRefusal env t) ≡ false = tests-stop-none env t in rw (e, f)
 
-  one-left : steppedWithText journal image records words r room ≡ refused (rewindRefusal env t) → left words r ≡ callsLeave journal image records (room ∷ []) words r
+  one-left : steppedWithText journal image records words r room ≡ refused (rewindRefusal env t) → leaving words r ≡ callsLeave journal image records (room ∷ []) words r
   unfolding callsLeave
   one-left e = rw e
 

@@ -46,20 +46,20 @@ module _ (journal image l words : List ℕ) (used position : ℕ) (pass : rewind
   tests = passed env t pass
 
   -- no record is left
-  pub told-end : (room : ℕ) → recordsIn l ≤ position → steppedWithText journal image l words (stateOf used position) room ≡ answered ended
-  told-end room k =
+  pub with-text-end : (room : ℕ) → recordsIn l ≤ position → steppedWithText journal image l words (stateOf used position) room ≡ answered ended
+  with-text-end room k =
       let e : turning env t position ≡ answered ended = sym (turn-end journal l (length image) position t (sym pass) refl k) in
       let o : stepped journal image l words (stateOf used position) ≡ answered ended = rw e in
       text-fits (nextText journal image) room o (omega arith)
 
   pub step-end : (at : ℕ) (heads nexts text : List ℕ) {way : List ℕ} → Indexed t heads nexts → recordsIn l ≤ position
       → StepLeaves journal image at (length heads) nexts text (steppedWithText journal image l words (stateOf used position) (length text - at)) t End words heads nexts way text
-  step-end at heads nexts text index k = rw (told-end (length text - at) k) (record { answer = refl; forward = refl; heads-are = index .0; nexts-are = index .1; way-is = tt; text-is = refl })
+  step-end at heads nexts text index k = rw (with-text-end (length text - at) k) (record { answer = refl; forward = refl; heads-are = index .0; nexts-are = index .1; way-is = tt; text-is = refl })
 
   module _ {e : RecordEntry} (near : position < recordsIn l) (is : e ≡ entryIn journal l position) where
     -- the next record is the one at the position, and its name is inside
-    pub told-next : (room : ℕ) → steppedWithText journal image l words (stateOf used position) room ≡ making journal image t e room
-    told-next room =
+    pub with-text-next : (room : ℕ) → steppedWithText journal image l words (stateOf used position) room ≡ making journal image t e room
+    with-text-next room =
         let f : turning env t position ≡ answered (next e) = sym (turn-next journal l (length image) position t (sym pass) refl near is) in
         rw f
 
@@ -69,7 +69,7 @@ module _ (journal image l words : List ℕ) (used position : ℕ) (pass : rewind
     pub step-next : (at : ℕ) (heads nexts text : List ℕ) {r : Made} {f h n way x : List ℕ}
         → StepLeaves journal image at (length heads) nexts text (making journal image t e (length text - at)) t r f h n way x
         → StepLeaves journal image at (length heads) nexts text (steppedWithText journal image l words (stateOf used position) (length text - at)) t r f h n way x
-    step-next at heads nexts text c = rw (told-next (length text - at)) c
+    step-next at heads nexts text c = rw (with-text-next (length text - at)) c
 
   -- what holds of a step that is made
   pub record MadeStep (room : ℕ) (x : Step) : Type 0 where
@@ -112,8 +112,8 @@ module _ (journal image l words : List ℕ) (used position : ℕ) (pass : rewind
       go : (b : Bool) → ltb position (recordsIn l) ≡ b → MadeStep room x
       go true h =
           let near : position < recordsIn l = ltb-true position (recordsIn l) h in
-          of-adding room near (adding t (forward (entryIn journal l position) ∷ [])) refl (sym (told-next near refl room) ∙ q)
+          of-adding room near (adding t (forward (entryIn journal l position) ∷ [])) refl (sym (with-text-next near refl room) ∙ q)
       go false h =
-          let e = sym (told-end room (ltb-false position (recordsIn l) h)) ∙ q in
+          let e = sym (with-text-end room (ltb-false position (recordsIn l) h)) ∙ q in
           let z : _≡_ {A = ℕ} 0 1 = cc in
           absurd (omega arith)

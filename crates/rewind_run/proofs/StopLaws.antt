@@ -31,7 +31,7 @@ use Rattle.rewind.specs.Written.{steppedWithText}
 use Rattle.rewind.specs.declared.Rewind.{Rewind}
 use Rattle.rewind_run.specs.Running.{Run, runFrom, oneMore, onward, running, ran, testedRun, runTable}
 use Rattle.rewind_run.specs.Stopping.{stops, Over}
-use Rattle.rewind_run.proofs.StepLaws.{tests, told-end, told-next, made-step}
+use Rattle.rewind_run.proofs.StepLaws.{tests, with-text-end, with-text-next, made-step}
 
 -- what the tests refuse stops no run
 pub tests-stop-none : (env : Environment) (t : Table) → stops (rewindRefusal env t) ≡ false
@@ -101,9 +101,9 @@ module _ (journal image l words : List ℕ) (used position : ℕ) (pass : rewind
         go : (b : Bool) → ltb position (recordsIn l) ≡ b → Slotless n ⊎ Roomless room n
         go true h =
             let near : position < recordsIn l = ltb-true position (recordsIn l) h in
-            of-adding near (adding t (forward entry ∷ [])) refl (sym (told-next journal image l words used position pass near refl room) ∙ q)
+            of-adding near (adding t (forward entry ∷ [])) refl (sym (with-text-next journal image l words used position pass near refl room) ∙ q)
         go false h =
-            let e = sym (told-end journal image l words used position pass room (ltb-false position (recordsIn l) h)) ∙ q in
+            let e = sym (with-text-end journal image l words used position pass room (ltb-false position (recordsIn l) h)) ∙ q in
             let z : _≡_ {A = ℕ} 0 1 = cc in
             absurd (omega arith)
 
@@ -117,7 +117,7 @@ module _ (journal image l words : List ℕ) (used position : ℕ) (pass : rewind
         go : (b : Bool) → ltb position (recordsIn l) ≡ b → recordsIn l ≤ position
         go true h =
             let near : position < recordsIn l = ltb-true position (recordsIn l) h in
-            none near (adding t (forward entry ∷ [])) (sym (told-next journal image l words used position pass near refl room) ∙ q)
+            none near (adding t (forward entry ∷ [])) (sym (with-text-next journal image l words used position pass near refl room) ∙ q)
           where
             none : position < recordsIn l → (a : Outcome Table) → withText (nextText journal image) room (mapOutcome (λ u. next (stepOf depth entry u)) a) ≡ answered ended → recordsIn l ≤ position
             none near (refused m) e = let z : _≡_ {A = ℕ} 0 1 = cc in absurd (omega arith)
@@ -134,15 +134,15 @@ module _ (journal image records : List ℕ) (room asked : ℕ) where
   abbrev run : ℕ → Run → Run
   run = running journal image records room
 
-  abbrev toldFrom : Run → Outcome (Next Step)
-  toldFrom r = steppedWithText journal image records (r .words) (r .rewind) (room - length (r .text))
+  abbrev textFrom : Run → Outcome (Next Step)
+  textFrom r = steppedWithText journal image records (r .words) (r .rewind) (room - length (r .text))
 
   pub over : (n : ℕ) (r : Run) → r .stopped ≡ 0 → passes r → length (r .ends) + n ≡ asked → Over journal image records room asked (run n r)
   unfolding running
   over zero r s p e = inl (record { says = s; steps = omega (arith, e) })
-  over (suc n) r s p e = go (toldFrom r) refl (over n)
+  over (suc n) r s p e = go (textFrom r) refl (over n)
     where
-      go : (o : Outcome (Next Step)) → toldFrom r ≡ o → ((q : Run) → q .stopped ≡ 0 → passes q → length (q .ends) + n ≡ asked → Over journal image records room asked (run n q))
+      go : (o : Outcome (Next Step)) → textFrom r ≡ o → ((q : Run) → q .stopped ≡ 0 → passes q → length (q .ends) + n ≡ asked → Over journal image records room asked (run n q))
           → Over journal image records room asked (onward (run n) journal image r o)
       go (refused k) g more =
           ⊎-elim

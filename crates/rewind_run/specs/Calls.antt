@@ -22,8 +22,8 @@ roomsOn more journal image r (answered (next x)) = more (oneMore journal image r
 unfoldable pub rooms : List ℕ → List ℕ → List ℕ → ℕ → ℕ → Run → List ℕ
 rooms journal image records room zero r = []
 rooms journal image records room (suc n) r =
-    let left = room - length (r .text) in
-    left ∷ roomsOn (rooms journal image records room n) journal image r (steppedWithText journal image records (r .words) (r .rewind) left)
+    let spare = room - length (r .text) in
+    spare ∷ roomsOn (rooms journal image records room n) journal image r (steppedWithText journal image records (r .words) (r .rewind) spare)
 
 -- the rooms of the calls that a call of a run stands for: those of its run; one where it is refused, also where no step is asked for, with all of the text
 abbrev pub roomsBy : Outcome Run → ℕ → List ℕ → List ℕ
@@ -46,19 +46,19 @@ pub record Left : Type 0 where
   pub words : List ℕ
   pub rewind : Rewind
 
-abbrev pub left : List ℕ → Rewind → Left
-left words r = record { words = words; rewind = r }
+abbrev pub leaving : List ℕ → Rewind → Left
+leaving words r = record { words = words; rewind = r }
 
 unfoldable pub callsLeave : List ℕ → List ℕ → List ℕ → List ℕ → List ℕ → Rewind → Left
-callsLeave journal image records [] words r = left words r
+callsLeave journal image records [] words r = leaving words r
 callsLeave journal image records (room ∷ more) words r =
     let o = steppedWithText journal image records words r room in
     callsLeave journal image records more (wordsAfter o words) (rewindAfter o r)
 
 -- and after a call of a run
 abbrev pub runLeaves : Outcome Run → List ℕ → Rewind → Left
-runLeaves (refused n) words r = left words r
-runLeaves (answered x) words r = left (x .words) (x .rewind)
+runLeaves (refused n) words r = leaving words r
+runLeaves (answered x) words r = leaving (x .words) (x .rewind)
 
 -- a run by what its calls come to
 abbrev pub gathered : List ℕ → List ℕ → Run → List (Outcome (Next Step)) → Run

@@ -74,13 +74,13 @@ module _ (journal image : List ℕ) (u : Table) (parent : EntryKey) (name : Name
     g : Behinds more text at v y
     g = rw (up .chain-is) at told
 
-    abbrev Tells : Made → List ℕ → List ℕ → List ℕ → List ℕ → List ℕ → Type 0
-    Tells = StepLeaves journal image at m nexts text (stepWithText journal image u parent name (length text - at)) t
+    abbrev Leaves : Made → List ℕ → List ℕ → List ℕ → List ℕ → List ℕ → Type 0
+    Leaves = StepLeaves journal image at m nexts text (stepWithText journal image u parent name (length text - at)) t
 
-    pub tell-to : {to : ℕ} {h n : List ℕ} {q : ResolvedPath} → v ≡ put.To to → q ≡ resolvedBy p → h ≡ headsOf m u → n ≡ nextsOf m u nexts → Tells (To to (u .used) q) (u .words) h n way′ y
+    pub tell-to : {to : ℕ} {h n : List ℕ} {q : ResolvedPath} → v ≡ put.To to → q ≡ resolvedBy p → h ≡ headsOf m u → n ≡ nextsOf m u nexts → Leaves (To to (u .used) q) (u .words) h n way′ y
     tell-to {to} {h} {n} {q} f eq eh en = go (ltb (length text - at) (length more)) refl
       where
-        go : (b : Bool) → ltb (length text - at) (length more) ≡ b → Tells (To to (u .used) q) (u .words) h n way′ y
+        go : (b : Bool) → ltb (length text - at) (length more) ≡ b → Leaves (To to (u .used) q) (u .words) h n way′ y
         go true l = let z : put.To to ≡ put.Full = sym f ∙ g .answer ∙ rw l in let z : _≡_ {A = ℕ} 0 1 = cc in absurd (omega arith)
         go false l =
             let l′ : ltb (length text - at) (length (recordText journal image step)) ≡ false = rw (← same-text) l in
@@ -98,10 +98,10 @@ module _ (journal image : List ℕ) (u : Table) (parent : EntryKey) (name : Name
               text-is = text-is ∙ ap (sets text at) same-text;
             })
 
-    pub tell-full : {f h n : List ℕ} → v ≡ put.Full → f ≡ t .words → h ≡ headsOf m t → n ≡ nextsOf m t nexts → Tells (Refused textFull) f h n way′ y
+    pub tell-full : {f h n : List ℕ} → v ≡ put.Full → f ≡ t .words → h ≡ headsOf m t → n ≡ nextsOf m t nexts → Leaves (Refused textFull) f h n way′ y
     tell-full {f} {h} {n} e ef eh en = go (ltb (length text - at) (length more)) refl
       where
-        go : (b : Bool) → ltb (length text - at) (length more) ≡ b → Tells (Refused textFull) f h n way′ y
+        go : (b : Bool) → ltb (length text - at) (length more) ≡ b → Leaves (Refused textFull) f h n way′ y
         go true l =
             let l′ : ltb (length text - at) (length (recordText journal image step)) ≡ true = rw (← same-text) l in
             let text-is : y ≡ text = g .written ∙ rw l in
@@ -195,11 +195,11 @@ module _ (journal image : List ℕ) (t : Table) (e : RecordEntry) (text : List �
             let same : putAt s slot key info ≡ t .words = rw (qk, qi) (rw (← w .leaves) at (put-back t a (w .room) (qs ∙ rw q))) in
             λ i. record { words = same i; used = t .used }
 
-        pub make-told : {slot : ℕ} {key : EntryKey} {info : EntryInfo} → slot ≡ slotFor t (e .key) → key ≡ keyAt (t .words) slot → info ≡ infoAt (t .words) slot
+        pub make-written : {slot : ℕ} {key : EntryKey} {info : EntryInfo} → slot ≡ slotFor t (e .key) → key ≡ keyAt (t .words) slot → info ≡ infoAt (t .words) slot
             → {r : Made} {f′ h′ n′ w′ x′ : List ℕ}
             → StepLeaves journal image at (length h) n text (stepWithText journal image (table s k) (e .info .parent) (e .info .name) (length text - at)) (table (putAt s slot key info) (t .used)) r f′ h′ n′ w′ x′
             → Makes r f′ h′ n′ w′ x′
-        make-told qs qk qi c =
+        make-written qs qk qi c =
             let o′ = stepWithText journal image (table s k) (e .info .parent) (e .info .name) (length text - at) in
             let goes′ : adding t (forward e ∷ []) ≡ answered (table s k) = rw (← q) goes in
             let c′ = rw (back qs qk qi) at c in

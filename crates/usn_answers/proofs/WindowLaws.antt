@@ -7,7 +7,7 @@ use lib.Dec.{eqb}
 use mir.Val.{boolByte}
 use Rattle.base.specs.Outcome.{Outcome, refused, answered}
 use Rattle.base.specs.Lists.{overwrite}
-use Rattle.base.specs.Words.{Row, Answers, Lists}
+use Rattle.base.specs.Words.{RowOut, Answers, Lists}
 use Rattle.base.proofs.WordLaws.{out-both, refused-out}
 use Rattle.usn_record.specs.Record.{recordWords}
 use Rattle.usn_record.specs.declared.UsnRecord.{UsnRecord}
@@ -27,36 +27,36 @@ reader-made w = ap (λ (n : ℕ). w .start ∷ w .position ∷ w .end ∷ w .hel
     flag false = refl
 
 -- A reading x goes out: with the number r, the window's words l are l′, and the answer's words o are o′
-abbrev pub Told : Outcome Reading → List ℕ → List ℕ → ℕ → List ℕ → List ℕ → Type 0
-Told = Lists windowWords readingWords
+abbrev pub ReadingOut : Outcome Reading → List ℕ → List ℕ → ℕ → List ℕ → List ℕ → Type 0
+ReadingOut = Lists windowWords readingWords
 
-pub told-refused : {x : Outcome Reading} {l o : List ℕ} {n : ℕ} → x ≡ refused n → Told x l o n l o
-told-refused e = out-both (refused-out windowWords e) (refused-out readingWords e)
+pub out-refused : {x : Outcome Reading} {l o : List ℕ} {n : ℕ} → x ≡ refused n → ReadingOut x l o n l o
+out-refused e = out-both (refused-out windowWords e) (refused-out readingWords e)
 
 by : (x : Reading) {a : Answer} → x .answer ≡ a → readingOutcome x ≡ outcomeBy a x
 by x e = ap (λ (a : Answer). outcomeBy a x) e
 
 module _ (x : Reading) {l o : List ℕ} where
-  pub reading-refused : {n : ℕ} → x .answer ≡ Refused n → Told (readingOutcome x) l o n l o
-  reading-refused e = told-refused (by x e)
+  pub reading-refused : {n : ℕ} → x .answer ≡ Refused n → ReadingOut (readingOutcome x) l o n l o
+  reading-refused e = out-refused (by x e)
 
   -- the window's words are written, and the answer's are a row
   module _ {l′ o′ : List ℕ} {r n : ℕ} (w : Answers readerWords (answered (x .reader)) l r l′) where
-    told : readingOutcome x ≡ answered x → {row : List ℕ} → answerWords (x .answer) ≡ row → Row row o n o′ → Told (readingOutcome x) l o r l′ o′
-    told q e g = rw q (record { answer = w .answer; list-is = w .row; row = rw e (g .row) })
+    reading-given : readingOutcome x ≡ answered x → {row : List ℕ} → answerWords (x .answer) ≡ row → RowOut row o n o′ → ReadingOut (readingOutcome x) l o r l′ o′
+    reading-given q e g = rw q (record { answer = w .answer; list-is = w .row; row = rw e (g .row) })
 
-    pub reading-end : x .answer ≡ End → Row (0 ∷ 0 ∷ 0 ∷ []) o n o′ → Told (readingOutcome x) l o r l′ o′
+    pub reading-end : x .answer ≡ End → RowOut (0 ∷ 0 ∷ 0 ∷ []) o n o′ → ReadingOut (readingOutcome x) l o r l′ o′
     unfolding answerWords
-    reading-end e g = told (by x e) (ap answerWords e) g
+    reading-end e g = reading-given (by x e) (ap answerWords e) g
 
-    pub reading-wants : {a k : ℕ} → x .answer ≡ Wants a k → Row (1 ∷ a ∷ k ∷ []) o n o′ → Told (readingOutcome x) l o r l′ o′
+    pub reading-wants : {a k : ℕ} → x .answer ≡ Wants a k → RowOut (1 ∷ a ∷ k ∷ []) o n o′ → ReadingOut (readingOutcome x) l o r l′ o′
     unfolding answerWords
-    reading-wants e g = told (by x e) (ap answerWords e) g
+    reading-wants e g = reading-given (by x e) (ap answerWords e) g
 
-    pub reading-record : {a k : ℕ} {y : UsnRecord} → x .answer ≡ Record a k y → {row : List ℕ} → row ≡ recordWords y → Row ((2 ∷ a ∷ k ∷ []) ++ row) o n o′
-        → Told (readingOutcome x) l o r l′ o′
+    pub reading-record : {a k : ℕ} {y : UsnRecord} → x .answer ≡ Record a k y → {row : List ℕ} → row ≡ recordWords y → RowOut ((2 ∷ a ∷ k ∷ []) ++ row) o n o′
+        → ReadingOut (readingOutcome x) l o r l′ o′
     unfolding answerWords
-    reading-record {a} {k} e f g = told (by x e) (ap answerWords e ∙ ap (λ (ws : List ℕ). 2 ∷ a ∷ k ∷ ws) (sym f)) g
+    reading-record {a} {k} e f g = reading-given (by x e) (ap answerWords e ∙ ap (λ (ws : List ℕ). 2 ∷ a ∷ k ∷ ws) (sym f)) g
 
 -- the words that a call leaves are those of its window: the next call reads it back
 pub reader-again : (w : UsnJournalReader) (l : List ℕ) → readerOf (overwrite l (readerWords w)) ≡ w

@@ -11,7 +11,7 @@ use Rattle.base.specs.Walk.{walk, from}
 use Rattle.base.proofs.MaskedLaws.{masked-middle}
 use Rattle.usn_record.specs.Bytes.{le, leAt, leBytes}
 use Rattle.usn_record.specs.Names.{nameAt}
-use Rattle.usn_record.specs.Sample.{header, sampleFixed, createdFixed, sampleRecord, recordE}
+use Rattle.usn_record.specs.Sample.{sampleHeader, sampleFixed, createdFixed, sampleRecord, recordE}
 use Rattle.usn_record.proofs.ListedLaws.{whole-name}
 use Rattle.usn_record.proofs.SampleLaws.{sample-named}
 use Rattle.usn_carver.specs.Settings.{standard}
@@ -52,7 +52,7 @@ E-two-runs = call-two-runs standard recordE ax (0 ∷ 0 ∷ []) (rw (E-outcome, 
 -- A version 2 record at 8 whose name's third and fourth unit are the name length and the name offset of a version 3 candidate at 0; its
 -- reason and source are that candidate's time.
 abbrev overlap : List ℕ → List ℕ
-overlap name = (header 80 3 ++ sampleFixed 68 125911584000000000 0x256d4000 0x1bf53eb 8 60) ++ (name ++ leBytes 4 0)
+overlap name = (sampleHeader 80 3 ++ sampleFixed 68 125911584000000000 0x256d4000 0x1bf53eb 8 60) ++ (name ++ leBytes 4 0)
 
 -- units that are no name offset, and units 2 and 76 that make a name of version 3
 abbrev abcd : List ℕ
@@ -79,7 +79,7 @@ overlap-name =
 pub overlap-masked : Masked (overlap abcd) (overlap ab2L) (placesOf (nameOf (overlap abcd)) (events standard (overlap abcd)))
 overlap-masked =
     rw (overlap-first, overlap-name)
-    (masked-middle (header 80 3 ++ sampleFixed 68 125911584000000000 0x256d4000 0x1bf53eb 8 60) abcd ab2L (leBytes 4 0) refl)
+    (masked-middle (sampleHeader 80 3 ++ sampleFixed 68 125911584000000000 0x256d4000 0x1bf53eb 8 60) abcd ab2L (leBytes 4 0) refl)
 
 pub overlap-matters : events standard (overlap ab2L) ≡ events standard (overlap abcd) → ⊥
 overlap-matters e =

@@ -19,7 +19,7 @@ use Rattle.usn_window.specs.declared.UsnJournalReader.{UsnJournalReader}
 use Rattle.usn_window.specs.declared.Answer.the-variants.{End, Refused}
 use Rattle.usn_window.specs.declared.Reading.{Reading}
 use Rattle.usn_answers.specs.Window.{readerWords, readerOf, answerWords, windowWords, readingWords, readingOutcome}
-use Rattle.usn_answers.proofs.WindowLaws.{Told, told-refused}
+use Rattle.usn_answers.proofs.WindowLaws.{ReadingOut, out-refused}
 use Rattle.usn_ffi.proofs.DomainLaws.{next-domain, give-domain}
 use Rattle.usn_ffi.specs.Promise.{Gives}
 use Rattle.usn_ffi.specs.Window.{onWindow, newCall, nextCall, giveCall, giveBuffer}
@@ -49,11 +49,11 @@ module _ (l o : List ℕ) (x : Reading) where
 
 -- the next answer x is that of the window w that is read from l
 module _ (l b o : List ℕ) (h : 6 ≤ length l) {w : UsnJournalReader} (e : w ≡ readerOf l) where
-  pub next-short : length o < 22 → {r : ℕ} → r ≡ shortBy (ltb streamDomain (w .total)) → Told (nextCall l b o) l o r l o
-  next-short k f = told-refused (short-out l o _ h (next-domain (readerOf l) (length b) (bufferReads b)) k (rw e at f))
+  pub next-short : length o < 22 → {r : ℕ} → r ≡ shortBy (ltb streamDomain (w .total)) → ReadingOut (nextCall l b o) l o r l o
+  next-short k f = out-refused (short-out l o _ h (next-domain (readerOf l) (length b) (bufferReads b)) k (rw e at f))
 
-  pub next-answers : 22 ≤ length o → {x : Reading} → x ≡ nextOf (bufferReads b) (length b) w → {l′ o′ : List ℕ} {r : ℕ} → Told (readingOutcome x) l o r l′ o′
-      → Told (nextCall l b o) l o r l′ o′
+  pub next-answers : 22 ≤ length o → {x : Reading} → x ≡ nextOf (bufferReads b) (length b) w → {l′ o′ : List ℕ} {r : ℕ} → ReadingOut (readingOutcome x) l o r l′ o′
+      → ReadingOut (nextCall l b o) l o r l′ o′
   next-answers k f t = rw (window-answers l o _ h k) (rw (f, e) at t)
 
 -- A giving that is refused leaves the buffer: a reading v that is no refusal, or one, by the test that decides on both.
@@ -74,13 +74,13 @@ buffer-kept b x w = kept (eqb (giveRefusal (length b) (length x) w) 0) _ _ _ b _
 
 module _ (l b bytes o : List ℕ) where
   pub give-refused : {n : ℕ} → giveCall l b bytes o ≡ refused n → Gives l b bytes o n l b o
-  give-refused e = record { reading = told-refused e; filled = ap (λ (y : Outcome Reading). unlessRefused y b (bufferAfter b bytes (readerOf l))) (sym e) }
+  give-refused e = record { reading = out-refused e; filled = ap (λ (y : Outcome Reading). unlessRefused y b (bufferAfter b bytes (readerOf l))) (sym e) }
 
   module _ (h : 6 ≤ length l) {w : UsnJournalReader} (e : w ≡ readerOf l) where
     pub give-short : length o < 22 → {r : ℕ} → r ≡ shortBy (ltb streamDomain (w .total)) → Gives l b bytes o r l b o
     give-short k f = give-refused (short-out l o _ h (give-domain (readerOf l) (length b) (length bytes)) k (rw e at f))
 
-    pub give-answers : 22 ≤ length o → {x : Reading} {b′ : List ℕ} → window.Gives w b bytes x b′ → {l′ o′ : List ℕ} {r : ℕ} → Told (readingOutcome x) l o r l′ o′
+    pub give-answers : 22 ≤ length o → {x : Reading} {b′ : List ℕ} → window.Gives w b bytes x b′ → {l′ o′ : List ℕ} {r : ℕ} → ReadingOut (readingOutcome x) l o r l′ o′
         → Gives l b bytes o r l′ b′ o′
     give-answers k g t =
         let q = window-answers l o (giveOf (length b) (length bytes) (readerOf l)) h k in

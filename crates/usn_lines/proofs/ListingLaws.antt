@@ -15,7 +15,7 @@ use Rattle.usn_scan.proofs.ListedLaws.{Parses, scan-parses}
 use Rattle.additions.specs.Walking.{recordsIn, offsetIn}
 use Rattle.usn_lines.specs.Promise.{Begins}
 use Rattle.usn_lines.specs.declared.Begun.{Begun}
-use Rattle.usn_lines.specs.Listing.{Standing, header, lastLine, onward, line, lines, listingFrom, part, afterPart, parts, afterParts, allParts, listOf, begins, noWords, listing, standing}
+use Rattle.usn_lines.specs.Listing.{Standing, headerLine, lastLine, onward, line, lines, listingFrom, part, afterPart, parts, afterParts, allParts, listOf, begins, noWords, listing, standing}
 
 abbrev all : List (List ℕ) → List ℕ
 all = flatten (λ l. l)
@@ -59,7 +59,7 @@ module _ (journal records : List ℕ) where
   parts-make-listing s = let two : n + 2 ≡ suc (suc n) = omega arith in ap (λ (k : ℕ). all (parts journal records 0 k s)) two ∙ head-first s
     where
       head-first : (s : Standing) → all (parts journal records 0 (suc (suc n)) s) ≡ listingFrom journal records s
-      head-first s = ap (λ (l : List ℕ). header ++ l) (from-line n 0 s (omega arith))
+      head-first s = ap (λ (l : List ℕ). headerLine ++ l) (from-line n 0 s (omega arith))
 
   -- a loop over the parts: one part, and then the others
   pub parts-next : (k m : ℕ) (s : Standing) → 0 < m → afterParts journal records k m s ≡ afterParts journal records (k + 1) (m - 1) (afterPart journal records k s)

@@ -20,7 +20,7 @@ use Rattle.utf16.proofs.PutLaws.{put-then, put-as}
 use Rattle.additions.specs.Walking.{recordsIn, offsetIn}
 use Rattle.rewind.specs.declared.Rewind.{Rewind}
 use Rattle.usn_fields.specs.Line.{numbers}
-use Rattle.usn_lines.specs.Listing.{Standing, standing, header, recordsWord, lineEnd, lastLine, numbersOf, numbersAt, onward, pathOf, line, part, afterPart}
+use Rattle.usn_lines.specs.Listing.{Standing, standing, headerLine, recordsWord, lineEnd, lastLine, numbersOf, numbersAt, onward, pathOf, line, part, afterPart}
 use Rattle.usn_lines.specs.Promise.{Puts}
 use Rattle.usn_lines.specs.declared.Put.{Put}
 use Rattle.usn_fields.proofs.FieldLaws.{Filled, fill-of, decimal-word}
@@ -98,8 +98,8 @@ module _ (journal records text words : List ℕ) (r : Rewind) (k : ℕ) where
   abbrev PartPuts : Put → List ℕ → List ℕ → Type 0
   PartPuts = Puts text (part journal records k (standing words r)) 65736 (afterPart journal records k (standing words r))
 
-  pub head-puts : {e : ℕ} {v : List ℕ} → k ≡ 0 → (e ≡ 0 + length header) × (v ≡ sets text 0 header) → PartPuts (record { end = e; rewind = r }) words v
-  unfolding part afterPart header
+  pub head-puts : {e : ℕ} {v : List ℕ} → k ≡ 0 → (e ≡ 0 + length headerLine) × (v ≡ sets text 0 headerLine) → PartPuts (record { end = e; rewind = r }) words v
+  unfolding part afterPart headerLine
   head-puts {e} {v} z a =
       let is : eqb k 0 ≡ true = eq-eqb k 0 z in
       rw is (record { end-is = a .0; written = a .1; fits = omega (arith, a .0); state = refl; forward = refl })

@@ -32,10 +32,10 @@ use Rattle.usn_lines.specs.Promise.{Puts, Passes, runOr}
 use Rattle.usn_fields.proofs.ShownLaws.{shown-front, length-shown}
 
 -- an answer with text is an answer without, whose text has room
-told-step : (journal : List ℕ) (room : ℕ) (o : Outcome (Next Step)) (x : Step) → withText (nextText journal []) room o ≡ answered (next x)
+text-step : (journal : List ℕ) (room : ℕ) (o : Outcome (Next Step)) (x : Step) → withText (nextText journal []) room o ≡ answered (next x)
     → (o ≡ answered (next x)) × (length (recordText journal [] x) ≤ room)
-told-step journal room (refused n) x = λ e. let z : _≡_ {A = ℕ} 0 1 = cc in absurd (omega arith)
-told-step journal room (answered a) x =
+text-step journal room (refused n) x = λ e. let z : _≡_ {A = ℕ} 0 1 = cc in absurd (omega arith)
+text-step journal room (answered a) x =
     cond-cases (λ (w : Outcome (Next Step)). w ≡ answered (next x) → (answered a ≡ answered (next x)) × (length (recordText journal [] x) ≤ room))
     (ltb room (length (nextText journal [] a)))
     (λ _ e. let z : _≡_ {A = ℕ} 0 1 = cc in absurd (omega arith))
@@ -161,7 +161,7 @@ module _ (journal records words : List ℕ) (r : Rewind) where
         told-text = recordText journal [] x
 
         step : (stepped journal [] records words r ≡ answered (next x)) × (length told-text ≤ 65536)
-        step = told-step journal 65536 (stepped journal [] records words r) x f
+        step = text-step journal 65536 (stepped journal [] records words r) x f
 
         out-is : out ≡ one (answered (next x))
         out-is = ap one f

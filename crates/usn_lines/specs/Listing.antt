@@ -26,8 +26,8 @@ abbrev pub lineEnd : List ℕ
 lineEnd = 0x0A ∷ []
 
 -- offset version entry sequence parent parent-sequence usn seconds nanoseconds reason path
-unfoldable pub header : List ℕ
-header =
+unfoldable pub headerLine : List ℕ
+headerLine =
     0x6F ∷ 0x66 ∷ 0x66 ∷ 0x73 ∷ 0x65 ∷ 0x74 ∷ 0x20
     ∷ 0x76 ∷ 0x65 ∷ 0x72 ∷ 0x73 ∷ 0x69 ∷ 0x6F ∷ 0x6E ∷ 0x20
     ∷ 0x65 ∷ 0x6E ∷ 0x74 ∷ 0x72 ∷ 0x79 ∷ 0x20
@@ -97,11 +97,11 @@ module _ (journal records : List ℕ) where
 
   -- all of a listing, from the start of the rewind
   abbrev pub listingFrom : Standing → List ℕ
-  listingFrom s = header ++ (flatten (λ l. l) (lines 0 (recordsIn records) s) ++ lastLine (recordsIn records))
+  listingFrom s = headerLine ++ (flatten (λ l. l) (lines 0 (recordsIn records) s) ++ lastLine (recordsIn records))
 
   -- the same in parts, by their numbers: 0 is the header, then come the records' lines, and then the last line
   unfoldable pub part : ℕ → Standing → List ℕ
-  part k s = cond (eqb k 0) header (cond (leb k (recordsIn records)) (line (k - 1) s) (lastLine (recordsIn records)))
+  part k s = cond (eqb k 0) headerLine (cond (leb k (recordsIn records)) (line (k - 1) s) (lastLine (recordsIn records)))
 
   unfoldable pub afterPart : ℕ → Standing → Standing
   afterPart k s = cond (eqb k 0) s (cond (leb k (recordsIn records)) (onward s) s)

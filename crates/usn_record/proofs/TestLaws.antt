@@ -46,16 +46,16 @@ module _ (l : Layout) (k : FieldsInside l) (s : List ℕ) (o : ℕ) {n : ℕ} (e
       let m : n ≤ maxRecord = omega (arith, part-length-field l k s o e b f, h .most) in
       simp (le-leb _ _ f, le-leb _ _ m)
 
-  parsed-told : (x : Outcome UsnRecord) → parsed l (part s o n) ≡ x → (r : Bool) → r ≡ fitsRecord (l .fixed) n → r ≡ isAnswered x
-  parsed-told (answered u) p true q = refl
-  parsed-told (answered u) p false q = absurd (true≢false (sym (accepts-fits (accepts l (part s o n) u p .0)) ∙ sym q))
-  parsed-told (refused m) p true q =
+  parsed-tested : (x : Outcome UsnRecord) → parsed l (part s o n) ≡ x → (r : Bool) → r ≡ fitsRecord (l .fixed) n → r ≡ isAnswered x
+  parsed-tested (answered u) p true q = refl
+  parsed-tested (answered u) p false q = absurd (true≢false (sym (accepts-fits (accepts l (part s o n) u p .0)) ∙ sym q))
+  parsed-tested (refused m) p true q =
       absurd (let h = accepted l (part s o n) (fits-accepts (sym q)) ∙ p in let z : _≡_ {A = ℕ} 0 1 = cc in omega arith)
-  parsed-told (refused m) p false q = refl
+  parsed-tested (refused m) p false q = refl
 
   -- so a test of the length tells whether a record is listed where its version has this layout
-  pub fits-told : {r : Bool} → r ≡ fitsRecord (l .fixed) n → asListed (parsed l (take (o + n - o) (drop o s))) ≡ listed s o
+  pub fits-tested : {r : Bool} → r ≡ fitsRecord (l .fixed) n → asListed (parsed l (take (o + n - o) (drop o s))) ≡ listed s o
       → r ≡ isAnswered (listed s o)
-  fits-told {r} q p =
-      parsed-told (parsed l (part s o n)) refl r q ∙ sym (answered-listed (parsed l (part s o n)))
+  fits-tested {r} q p =
+      parsed-tested (parsed l (part s o n)) refl r q ∙ sym (answered-listed (parsed l (part s o n)))
       ∙ ap (λ t. isAnswered (asListed (parsed l t))) (sym (part-lent s o n)) ∙ ap isAnswered p

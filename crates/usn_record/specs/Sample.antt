@@ -11,14 +11,14 @@ abbrev pub reference : ℕ → ℕ → List ℕ
 reference entry sequence = leBytes 8 (entry + sequence * 2 ^ 48)
 
 -- the first 8 bytes of a record: its length, its major version, and minor version 0
-abbrev pub header : ℕ → ℕ → List ℕ
-header n version = leBytes 4 n ++ (leBytes 2 version ++ leBytes 2 0)
+abbrev pub sampleHeader : ℕ → ℕ → List ℕ
+sampleHeader n version = leBytes 4 n ++ (leBytes 2 version ++ leBytes 2 0)
 
 -- the fixed part of a version 2 record of n bytes: file 42:3 in folder 5:5, USN 4096, with a FILETIME, a reason and a source, and a name of so
 -- many bytes at an offset
 abbrev pub sampleFixed : ℕ → ℕ → ℕ → ℕ → ℕ → ℕ → List ℕ
 sampleFixed n time reason source nameLength nameOffset =
-    header n 2
+    sampleHeader n 2
     ++ (reference 42 3
     ++ (reference 5 5
     ++ (leBytes 8 4096

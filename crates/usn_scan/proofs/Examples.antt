@@ -12,14 +12,14 @@ use Rattle.base.proofs.MaskedLaws.{masked-middle}
 use Rattle.usn_record.specs.Bytes.{le, leAt, leBytes}
 use Rattle.usn_record.specs.Record.{listed}
 use Rattle.usn_record.specs.Names.{nameAt}
-use Rattle.usn_record.specs.Sample.{header, createdFixed, sampleRecord, recordE}
+use Rattle.usn_record.specs.Sample.{sampleHeader, createdFixed, sampleRecord, recordE}
 use Rattle.usn_record.proofs.SampleLaws.{sample-named}
 use Rattle.usn_scan.specs.Scan.{kindByVersion, kindOf, scanVisit, scanned}
 use Rattle.usn_scan.specs.Outcome.{scan, scanAnswer, scanList}
 use Rattle.usn_scan.proofs.TwoRunLaws.{scan-two-runs}
 
 -- zero words and a version 4 record between two records, and a header whose length passes the end
-many : scanned (replicate 16 0 ++ recordE ++ header 56 4 ++ replicate 48 0 ++ recordE ++ header 96 2)
+many : scanned (replicate 16 0 ++ recordE ++ sampleHeader 56 4 ++ replicate 48 0 ++ recordE ++ sampleHeader 96 2)
     ≡ record { offset = 16; length = 64 } ∷ record { offset = 136; length = 64 } ∷ []
 unfolding scanned from walk scanVisit kindOf kindByVersion leAt le
 many = refl

@@ -14,8 +14,8 @@ module _ (p : ResolvedPath) {e : EndNumbers} (f : e ≡ endNumbers (p .end)) whe
   pub resolved-made : _≡_ {A = List ℕ} (p .names ∷ e .kind ∷ e .entry ∷ e .sequence ∷ []) (resolvedWords p)
   resolved-made = rw f
 
-  pub told-made : (n : ℕ) → _≡_ {A = List ℕ} (p .names ∷ e .kind ∷ e .entry ∷ e .sequence ∷ n ∷ []) (writtenWords (record { path = p; text = n }))
-  told-made n = rw f
+  pub written-made : (n : ℕ) → _≡_ {A = List ℕ} (p .names ∷ e .kind ∷ e .entry ∷ e .sequence ∷ n ∷ []) (writtenWords (record { path = p; text = n }))
+  written-made n = rw f
 
 -- an end by its case
 pub end-root : {x : ChainEnd} → x ≡ Root → _≡_ {A = EndNumbers} (record { kind = 0; entry = 0; sequence = 0 }) (endNumbers x)

@@ -18,7 +18,7 @@ use Rattle.entry_table.specs.Promise.{outcome as storingOutcome, StoresIndexed}
 use Rattle.entry_table.specs.declared.Stored.{Stored}
 use Rattle.chain.specs.Chain.{Chain}
 use Rattle.chain.specs.Tracing.{chainAfter}
-use Rattle.volume_ffi.specs.Promise.{Stores, Seeds, Traces, Tells}
+use Rattle.volume_ffi.specs.Promise.{Stores, Seeds, Traces, Resolves}
 
 -- x is the outcome where the list takes the word
 module _ (x : Outcome Table) (s l : List ℕ) where
@@ -57,9 +57,9 @@ module _ (words : Chain → List ℕ) (n : ℕ) (x : Outcome Chain) (s l : List 
   traces-answered h g o = rw (domain-enough x h) (record { answer = o .answer; places = g; row = o .row })
 
 module _ (text words : Chain → List ℕ) (n : ℕ) (x : Outcome Chain) (s b l : List ℕ) where
-  pub tells-short : {above : Bool} → Domain above x → length l < n → {r : ℕ} → r ≡ shortBy above → Tells text words (afterDomain n (length l) x) s b l r s b l
+  pub tells-short : {above : Bool} → Domain above x → length l < n → {r : ℕ} → r ≡ shortBy above → Resolves text words (afterDomain n (length l) x) s b l r s b l
   tells-short d h f = let e = domain-short x d h f in rw e (record { answer = refl; places = refl; written = refl; row = refl })
 
   pub tells-answered : n ≤ length l → {t d m : List ℕ} {r : ℕ} → t ≡ chainAfter x s → d ≡ listAfter text x b → Answers words x l r m
-      → Tells text words (afterDomain n (length l) x) s b l r t d m
+      → Resolves text words (afterDomain n (length l) x) s b l r t d m
   tells-answered h g f o = rw (domain-enough x h) (record { answer = o .answer; places = g; written = f; row = o .row })

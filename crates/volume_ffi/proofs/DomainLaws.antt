@@ -8,7 +8,7 @@ use lib.Dec.{ltb}
 use Rattle.base.specs.Refusals.{domain}
 use Rattle.base.proofs.WordLaws.{Domain, domain-answered, domain-refused, domain-choice, domain-first}
 use Rattle.mft_carver.specs.declared.Settings.{Settings}
-use Rattle.mft_carver.specs.Carve.{stride, entriesIn, carving}
+use Rattle.mft_carver.specs.Carve.{entryStride, entriesIn, carving}
 use Rattle.utf16.specs.Decoding.{textOf, decoding as decodingName}
 use Rattle.entry_slots.specs.Names.{Lengths, lengthsOf, inside, allInside}
 use Rattle.entry_slots.specs.Slots.{slotsIn, namesIn}
@@ -26,7 +26,7 @@ use Rattle.volume_answers.proofs.DomainLaws.{either-domain, text-domain}
 pub carving-domain : (st : Settings) (s : List ℕ) (words : ℕ) → Domain (ltb domain (length s)) (carving st s words)
 unfolding carving
 carving-domain st s words =
-    domain-first (ltb domain (length s)) (domain-choice (ltb (words / stride) (length (entriesIn st s))) (domain-refused 5 refl) (domain-answered _))
+    domain-first (ltb domain (length s)) (domain-choice (ltb (words / entryStride) (length (entriesIn st s))) (domain-refused 5 refl) (domain-answered _))
 
 pub name-domain : (s : List ℕ) (room : ℕ) → Domain (ltb domain (length s)) (decodingName s room)
 unfolding decodingName
@@ -48,8 +48,8 @@ module _ (journal image : List ℕ) where
       (domain-choice (ltb (slotsIn (t .words)) (t .used)) (domain-refused 9 refl)
       (domain-choice (not (allInside (lengthsOf journal image) (namesIn (t .words) (t .used)))) (domain-refused 7 refl) (domain-answered _)))
 
-  pub telling-domain : (t : Table) (depth : ℕ) (k : EntryKey) (room : ℕ) → Domain (eitherAbove journal image) (tracingWithText journal image t depth k room)
-  telling-domain t depth k room = text-domain (pathText journal image) room (tracing (lengthsOf journal image) t depth k) (tracing-domain t depth k)
+  pub traced-text-domain : (t : Table) (depth : ℕ) (k : EntryKey) (room : ℕ) → Domain (eitherAbove journal image) (tracingWithText journal image t depth k room)
+  traced-text-domain t depth k room = text-domain (pathText journal image) room (tracing (lengthsOf journal image) t depth k) (tracing-domain t depth k)
 
   pub place-domain : (p : NamePlace) (room : ℕ) → Domain (eitherAbove journal image) (placeDecoding journal image p room)
   unfolding placing

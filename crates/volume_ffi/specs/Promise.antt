@@ -77,7 +77,7 @@ ChainCallPromise journal image slots used key chain out r =
     Traces (λ c. resolvedWords (resolved c)) o (before chain) (before out) r (after chain) (after out)
 
 -- a path: its number, the list of its places, its text, and the words of its answer
-pub record Tells (bytes words : Chain → List ℕ) (o : Outcome Chain) (list text out : List ℕ) (r : ℕ) (list′ text′ out′ : List ℕ) : Type 0 where
+pub record Resolves (bytes words : Chain → List ℕ) (o : Outcome Chain) (list text out : List ℕ) (r : ℕ) (list′ text′ out′ : List ℕ) : Type 0 where
   pub answer : r ≡ number o
   pub places : list′ ≡ chainAfter o list
   pub written : text′ ≡ listAfter bytes o text
@@ -86,4 +86,4 @@ pub record Tells (bytes words : Chain → List ℕ) (o : Outcome Chain) (list te
 abbrev pub ResolvePromise : Lent → Lent → Lent → ℕ → EntryKey → Lent → Lent → Lent → ℕ → Type 0
 ResolvePromise journal image slots used key chain text out r =
     let o = resolveCall (before journal) (before image) (before slots) used key (before text) (before out) in
-    Tells (pathText (before journal) (before image)) (λ c. writtenWords (writtenPath (before journal) (before image) c)) o (before chain) (before text) (before out) r (after chain) (after text) (after out)
+    Resolves (pathText (before journal) (before image)) (λ c. writtenWords (writtenPath (before journal) (before image) c)) o (before chain) (before text) (before out) r (after chain) (after text) (after out)

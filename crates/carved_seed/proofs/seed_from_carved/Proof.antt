@@ -73,7 +73,7 @@ use Rattle.carved_seed.specs.Promise.{seededFrom}
 use Rattle.carved_seed.proofs.EntryLaws.{none, entryAt, addedAt, whole-entries}
 use Rattle.carved_seed.proofs.SeedLaws.{Stands, stands-first, stands-next, stands-over}
 use Rattle.carved_seed.proofs.Again.{LentAgain, lends-again, comes-back, LentShared, shares-again, shared-back}
-use Rattle.carved_seed.proofs.Called.{calls-plain, calls-told}
+use Rattle.carved_seed.proofs.Called.{calls-plain, calls-returned}
 use Rattle.carved_seed.proofs.Values.{vals, mach, val, valK, valN, Good, GoodK, GoodN, typed, typed-c, typed-k, typed-n}
 use Rattle.carved_seed.proofs.Callees.{StateTest, to-test-state, goes-test-state, On, to-on, goes-on, UsedIn, to-used-in, goes-used-in, KeyOf, to-key-of, goes-key-of, InfoOf, to-info-of, goes-info-of}
 use Rattle.carved_seed.proofs.test_state as state
@@ -360,7 +360,7 @@ module _ {M : Type 1} (𝓤 : URA M) (H : Heap 𝓤) (A : Atoms 𝓤) (W : Given
         move ! (9 ∷ 10 ∷ 6 ∷ 2 ∷ 0 ∷ 4 ∷ []) $ move ! (1 ∷ 2 ∷ []) $ join ! $ move ! (1 ∷ 0 ∷ []) $ join ! $ move ! (2 ∷ 3 ∷ []) $ join ! $ move ! (2 ∷ 0 ∷ []) $ join ! $
         use2 W (raw (Insert 𝓤 H A mem run .pre (to-insert (ν ∷ []) δ (z .zs) m k e))) (goes-insert (ν ∷ []) δ (z .zs) m k e (is-m .1) is-k is-e) $
         -- [what `insert_if_absent` asks; image; journal; what is kept; entries' token; entries; _20; …]
-        calls-told ! (fmOf 𝓤 H (W .laws) 𝓣) (Insert 𝓤 H A mem run) known-insert (to-insert (ν ∷ []) δ (z .zs) m k e) D.the-row val (EL.tells D.the-type D′.the-laws) (‵ (flft κ₀ q₀) ⊛ ‵ (flft κ₁ q₁) ⊛ ‵ (flft (ν ∷ []) fullShare) ⊛ ‵ ftrue)
+        calls-returned ! (fmOf 𝓤 H (W .laws) 𝓣) (Insert 𝓤 H A mem run) known-insert (to-insert (ν ∷ []) δ (z .zs) m k e) D.the-row val (EL.tells D.the-type D′.the-laws) (‵ (flft κ₀ q₀) ⊛ ‵ (flft κ₁ q₁) ⊛ ‵ (flft (ν ∷ []) fullShare) ⊛ ‵ ftrue)
         (lasts insert.ended (κ₀, (κ₁, (ν ∷ [], tt))) (yj, (ym, (x δ (z .zs), (m, (k, (e, tt))))))) (λ r ws. Stores (inserting ls (table (z .zs) m) k e false) (z .zs) r (ws .1 .1 .0)) (λ u. id⊢ 𝓤 _)
         (and-then ! (load ! (from ! (stop !)) (look ! 44 refl)) (and-then ! (load ! (from ! (stop !)) (look ! 42 refl)) (and-then ! (load ! (from ! (stop !)) (look ! 10 refl)) (and-then ! (load ! (from ! (stop !)) (look ! 20 refl)) (and-then ! (load ! (from ! (stop !)) (look ! 8 refl)) (and-then ! (load ! (from ! (stop !)) (look ! 6 refl)) (no-more !))))))) (λ r ws said is.
         -- [the tokens; the last values; image; journal; what is kept; entries' token; entries; _20; …]
@@ -422,7 +422,7 @@ module _ {M : Type 1} (𝓤 : URA M) (H : Heap 𝓤) (A : Atoms 𝓤) (W : Given
         assigns ! (of-opd ! (load ! (from ! (fld ! refl (stop !))) (look-in ! 44 (sub ! 1 refl (whole !))))) (from ! (stop !)) (init ! 28 refl (tt, record { fits = roomm .0 })) $
         move ! (3 ∷ []) $ use1 W (‵ OwnE ⊛ ‵ OwnE) (shr-slice-copy 𝓤 H A W (named 3) κ₃ T.the-row .twice y (w ∷ [])) $ split ! $ move ! (4 ∷ 0 ∷ []) $ use2 W (raw (Names 𝓤 H A mem run .pre (to-names r₁))) (goes-names r₁ is₁) $
         -- [what `test_names` asks; entries; slots; its token; journal's; journal; image's; image; _20; …]
-        calls-told ! (fmOf 𝓤 H (W .laws) 𝓣) (Names 𝓤 H A mem run) known-names (to-names r₁) D.the-row val (EL.tells D.the-type D′.the-laws) (‵ (flft κ₃ q₃) ⊛ ‵ ftrue) (lasts names.ended (κ₃, tt) (r₁, (length js, (length ms, (y, tt))))) (λ r ws. outcome r ≡ namesTested ls (map additionOf es) (outcome r₁)) (λ u. id⊢ 𝓤 _)
+        calls-returned ! (fmOf 𝓤 H (W .laws) 𝓣) (Names 𝓤 H A mem run) known-names (to-names r₁) D.the-row val (EL.tells D.the-type D′.the-laws) (‵ (flft κ₃ q₃) ⊛ ‵ ftrue) (lasts names.ended (κ₃, tt) (r₁, (length js, (length ms, (y, tt))))) (λ r ws. outcome r ≡ namesTested ls (map additionOf es) (outcome r₁)) (λ u. id⊢ 𝓤 _)
         (and-then ! (load ! (from ! (stop !)) (look ! 36 refl)) (and-then ! (load ! (from ! (stop !)) (look ! 30 refl)) (and-then ! (load ! (from ! (stop !)) (look ! 28 refl)) (and-then ! (load ! (from ! (stop !)) (look ! 38 refl)) (no-more !))))) (λ r₂ ws e₂ is₂. split ! $ move ! (1 ∷ 2 ∷ []) $ drop ! $ drop ! $ move ! (2 ∷ 3 ∷ []) $ land ! (from ! (stop !)) (store ! 36 refl (typed 𝓤 H A W r₂ is₂)) $
         -- the room, with slots lent as `&` for a lifetime ν of the call, and a copy of entries
         assigns ! (addr ! (from ! (fld ! refl (hop ! (look-in ! 42 (sub ! 0 refl (whole !))) (stop !))))) (from ! (stop !)) (init ! 26 refl (tt, tt)) $
@@ -432,7 +432,7 @@ module _ {M : Type 1} (𝓤 : URA M) (H : Heap 𝓤) (A : Atoms 𝓤) (W : Given
         -- [slots, shared; what is kept; ν's token; entries' token; entries; journal's; journal; image's; image; _20; …]
         move ! (4 ∷ []) $ use1 W (‵ OwnE ⊛ ‵ OwnE) (shr-slice-copy 𝓤 H A W (named 3) κ₃ T.the-row .twice y (w ∷ [])) $ split ! $ move ! (4 ∷ 5 ∷ 2 ∷ 0 ∷ []) $ join ! $ use3 W (raw (RoomTest 𝓤 H A mem run .pre (to-room (ν ∷ []) δ r₂))) (goes-room (ν ∷ []) δ r₂ is₂) $
         -- [what `test_room` asks; entries; what is kept; journal's; journal; image's; image; _20; …]
-        calls-told ! (fmOf 𝓤 H (W .laws) 𝓣) (RoomTest 𝓤 H A mem run) known-room-test (to-room (ν ∷ []) δ r₂) D.the-row val (EL.tells D.the-type D′.the-laws) (‵ (flft (ν ∷ []) fullShare) ⊛ ‵ (flft κ₃ q₃) ⊛ ‵ ftrue) (lasts room-test.ended (ν ∷ [], (κ₃, tt)) (r₂, (x δ xs, (y, tt)))) (λ r ws. outcome r ≡ roomTested xs (map additionOf es) (outcome r₂)) (λ u. id⊢ 𝓤 _)
+        calls-returned ! (fmOf 𝓤 H (W .laws) 𝓣) (RoomTest 𝓤 H A mem run) known-room-test (to-room (ν ∷ []) δ r₂) D.the-row val (EL.tells D.the-type D′.the-laws) (‵ (flft (ν ∷ []) fullShare) ⊛ ‵ (flft κ₃ q₃) ⊛ ‵ ftrue) (lasts room-test.ended (ν ∷ [], (κ₃, tt)) (r₂, (x δ xs, (y, tt)))) (λ r ws. outcome r ≡ roomTested xs (map additionOf es) (outcome r₂)) (λ u. id⊢ 𝓤 _)
         (and-then ! (load ! (from ! (stop !)) (look ! 35 refl)) (and-then ! (load ! (from ! (stop !)) (look ! 23 refl)) (and-then ! (load ! (from ! (stop !)) (look ! 37 refl)) (no-more !)))) (λ r₃ ws′ e₃ is₃. split ! $ lft-end ! tt $ move ! (0 ∷ 4 ∷ []) $
         use2 W (later (‵ (OwnS (named 2) κ γ xs (length xs)) ⊛ ‵ (flft κ q))) (shared-back u64 κ (ν ∷ []) q γ b o 𝓤 H A W (named 2) (named 0) xs room) $ await ! tt $ split ! $
         -- [slots; its token; entries' token and true; the last values; entries; journal's; journal; image's; image; _20; …]

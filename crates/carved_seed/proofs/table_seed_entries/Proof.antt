@@ -47,7 +47,7 @@ use Rattle.entry_table.proofs.Stored as D
 use Rattle.entry_table.proofs.Stored.Laws as D′
 use Rattle.carved_seed.specs.declared.Seeded.{Seeded}
 use Rattle.carved_seed.specs.Promise.{inNumbers, seededFrom, StoresInNumbers}
-use Rattle.carved_seed.proofs.Called.{calls-told, calls-plain}
+use Rattle.carved_seed.proofs.Called.{calls-returned, calls-plain}
 use Rattle.carved_seed.proofs.Values.{val, Good, typed}
 use Rattle.carved_seed.proofs.Seeded as R
 use Rattle.carved_seed.proofs.Seeded.Laws as R′
@@ -174,7 +174,7 @@ module _ {M : Type 1} (𝓤 : URA M) (H : Heap 𝓤) (A : Atoms 𝓤) (W : Given
       assigns ! (agg ! (and-then ! (load ! (from ! (stop !)) (look ! 2 refl)) (and-then ! (load ! (from ! (fld ! refl (stop !))) (look-in ! 10 (sub ! 1 refl (whole !)))) (no-more !)))) (from ! (stop !)) (init ! 0 refl (tt, (tt, (record { fits = room .0 }, tt)))) $
       move ! (18 ∷ 19 ∷ []) $ join ! $ use1 W (raw (Seed 𝓤 H A mem run .pre to) ⊛ (‵ OwnJ ⊛ (‵ OwnM ⊛ ‵ OwnE))) apart $ split ! $ move ! (1 ∷ []) $ split ! $ move ! (1 ∷ []) $ split ! $ move ! (3 ∷ 2 ∷ 0 ∷ 1 ∷ []) $
       -- [what `seed_from_carved` asks; journal; image; entries; _8; …; _0; …]
-      calls-told ! (fmOf 𝓤 H (W .laws) 𝓣) (Seed 𝓤 H A mem run) known to D.the-row val (EL.tells D.the-type D′.the-laws) Tokens (lasts seed.ended (κ₀, (κ₁, (κ, (κ₃, tt)))) a) (λ r ws. Said r (ws .1 .1 .0)) (λ u. id⊢ 𝓤 _)
+      calls-returned ! (fmOf 𝓤 H (W .laws) 𝓣) (Seed 𝓤 H A mem run) known to D.the-row val (EL.tells D.the-type D′.the-laws) Tokens (lasts seed.ended (κ₀, (κ₁, (κ, (κ₃, tt)))) a) (λ r ws. Said r (ws .1 .1 .0)) (λ u. id⊢ 𝓤 _)
       (and-then ! (load ! (from ! (stop !)) (look ! 18 refl)) (and-then ! (load ! (from ! (stop !)) (look ! 16 refl)) (and-then ! (load ! (from ! (stop !)) (look ! 4 refl)) (and-then ! (load ! (from ! (stop !)) (look ! 12 refl)) (and-then ! (load ! (from ! (stop !)) (look ! 10 refl)) (no-more !)))))) (λ r ws e is.
       move ! (1 ∷ []) $ fsplit ! $ drop ! $ fsplit ! $ drop ! $ fsplit ! $ fsplit ! $ move ! (1 ∷ []) $ feqL ! (λ l. move ! (1 ∷ []) $ drop ! $
       -- [the last list; the tokens; journal; image; entries; _8; …]: the answer lands in _6, and its numbers in _0

@@ -9,7 +9,7 @@ use Rattle.chain.specs.Settings.{depth}
 use Rattle.chain.specs.Tracing.{withPlaces}
 use Rattle.chain.proofs.CallLaws.{tests-fail, tests-pass}
 use Rattle.chain.proofs.WayLaws.{climbed-resolved, climbed-places}
-use Rattle.path.proofs.CallLaws.{path-refused, path-fits, path-asks, path-full, path-told}
+use Rattle.path.proofs.CallLaws.{path-refused, path-fits, path-asks, path-full, path-written}
 use Rattle.path.proofs.path.Statement.{statement}
 use Rattle.path.proofs.path.Tie as tie
 
@@ -56,7 +56,7 @@ same-length-2 : tie.Need-same-length-2
 same-length-2 c = search needs
 
 returns-2 : tie.Need-returns-2
-returns-2 c = path-told (c .before .before .before .before .before .before .before .before .before .before .before .before .before .before .before .before .before .before .before .before .before .before .before .before .before .args .journal .now) (c .before .before .before .before .before .before .before .before .before .before .before .before .before .before .before .before .before .before .before .before .before .before .before .before .before .args .image .now) (table (c .before .before .before .before .before .before .before .before .before .before .before .before .before .before .before .before .before .before .before .before .before .before .before .before .before .args .slots .now) (c .before .before .before .before .before .before .before .before .before .before .before .before .before .before .before .before .before .before .before .before .before .before .before .before .before .args .used)) (c .before .before .before .before .before .before .before .before .before .before .before .before .before .before .before .before .before .before .before .before .before .before .before .before .before .args .key) (c .before .before .before .before .before .before .before .before .before .before .before .before .before .before .before .before .before .before .before .before .before .before .before .before .before .args .list .now) (c .before .before .before .before .before .before .before .before .before .before .before .before .before .before .before .before .before .before .before .before .before .before .before .before .before .args .text .now) (tests-pass _ _ depth (c .before .before .before .before .before .before .before .before .before .before .before .before .before .before .before .before .before .before .before .before .before .before .before .before .before .args .key) (c .before .before .before .before .before .before .before .before .before .before .before .before .before .before .before .before .before .before .before .refusal .ensures) (c .before .before .before .before .before .before .before .before .before .before .before .before .before .before .before .before .before .before .if1 .left)) (c .before .before .before .before .before .before .before .before .before .before .before .before .before .before .before .climb .ensures .chain-is) (c .before .before .before .before .before .before .before .before .before .before .before .put-path .ensures) (c .before .before .before .before .before .before .before .n .given .1) (c .resolved .ensures ∙ climbed-resolved _ _ (c .before .before .before .before .before .before .before .before .before .before .before .before .before .before .before .climb .ensures)) (c .before .before .before .list-places .ensures ∙ ap (withPlaces (c .before .before .before .before .before .before .before .before .before .before .before .before .before .before .before .before .before .before .before .before .before .before .before .before .before .args .list .now)) (climbed-places _ _ (c .before .before .before .before .before .before .before .before .before .before .before .before .before .before .before .climb .ensures)))
+returns-2 c = path-written (c .before .before .before .before .before .before .before .before .before .before .before .before .before .before .before .before .before .before .before .before .before .before .before .before .before .args .journal .now) (c .before .before .before .before .before .before .before .before .before .before .before .before .before .before .before .before .before .before .before .before .before .before .before .before .before .args .image .now) (table (c .before .before .before .before .before .before .before .before .before .before .before .before .before .before .before .before .before .before .before .before .before .before .before .before .before .args .slots .now) (c .before .before .before .before .before .before .before .before .before .before .before .before .before .before .before .before .before .before .before .before .before .before .before .before .before .args .used)) (c .before .before .before .before .before .before .before .before .before .before .before .before .before .before .before .before .before .before .before .before .before .before .before .before .before .args .key) (c .before .before .before .before .before .before .before .before .before .before .before .before .before .before .before .before .before .before .before .before .before .before .before .before .before .args .list .now) (c .before .before .before .before .before .before .before .before .before .before .before .before .before .before .before .before .before .before .before .before .before .before .before .before .before .args .text .now) (tests-pass _ _ depth (c .before .before .before .before .before .before .before .before .before .before .before .before .before .before .before .before .before .before .before .before .before .before .before .before .before .args .key) (c .before .before .before .before .before .before .before .before .before .before .before .before .before .before .before .before .before .before .before .refusal .ensures) (c .before .before .before .before .before .before .before .before .before .before .before .before .before .before .before .before .before .before .if1 .left)) (c .before .before .before .before .before .before .before .before .before .before .before .before .before .before .before .climb .ensures .chain-is) (c .before .before .before .before .before .before .before .before .before .before .before .put-path .ensures) (c .before .before .before .before .before .before .before .n .given .1) (c .resolved .ensures ∙ climbed-resolved _ _ (c .before .before .before .before .before .before .before .before .before .before .before .before .before .before .before .climb .ensures)) (c .before .before .before .list-places .ensures ∙ ap (withPlaces (c .before .before .before .before .before .before .before .before .before .before .before .before .before .before .before .before .before .before .before .before .before .before .before .before .before .args .list .now)) (climbed-places _ _ (c .before .before .before .before .before .before .before .before .before .before .before .before .before .before .before .climb .ensures)))
 
 same-length-3 : tie.Need-same-length-3
 same-length-3 c = search needs

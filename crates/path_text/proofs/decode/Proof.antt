@@ -3,7 +3,7 @@ use mathlib.Core.Path.{sym, _∙_}
 use native.Mathlib.Omega.{arith}
 use borrow.Author.Needs.{needs}
 use borrow.Author.Tests.{not-true, not-false}
-use Rattle.path_text.proofs.CallLaws.{decode-journal, decode-image, decode-outside, decode-full, decode-told}
+use Rattle.path_text.proofs.CallLaws.{decode-journal, decode-image, decode-outside, decode-full, decode-written}
 use Rattle.path_text.proofs.decode.Statement.{statement}
 use Rattle.path_text.proofs.decode.Tie as tie
 
@@ -32,7 +32,7 @@ same-length : tie.Need-same-length
 same-length c = search needs
 
 returns-5 : tie.Need-returns-5
-returns-5 c = decode-told _ _ _ _ (c .before .before .before .before .before .before .before .before .before .if1 .left) (c .before .before .before .before .before .before .before .before .if2 .left) (sym (c .before .before .before .before .before .before .before .is-inside .ensures) ∙ not-false _ (c .before .before .before .before .before .before .if3 .left)) (c .before .before .before .before .before .place-length .ensures) (c .before .before .before .before .if4 .left) (c .before .before .put-place .ensures)
+returns-5 c = decode-written _ _ _ _ (c .before .before .before .before .before .before .before .before .before .if1 .left) (c .before .before .before .before .before .before .before .before .if2 .left) (sym (c .before .before .before .before .before .before .before .is-inside .ensures) ∙ not-false _ (c .before .before .before .before .before .before .if3 .left)) (c .before .before .before .before .before .place-length .ensures) (c .before .before .before .before .if4 .left) (c .before .before .put-place .ensures)
 
 pub decode-spec : {M : Type 1} → statement M
 decode-spec =

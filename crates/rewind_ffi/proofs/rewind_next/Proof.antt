@@ -3,7 +3,7 @@ use lib.ListN.{length}
 use denote.Ref.{now}
 use borrow.Author.Needs.{needs}
 use Rattle.rewind_ffi.proofs.StepLaws.{step-out, steps-told-short, steps-told-answered}
-use Rattle.rewind_ffi.proofs.DomainLaws.{told-domain}
+use Rattle.rewind_ffi.proofs.DomainLaws.{step-text-domain}
 use Rattle.rewind_ffi.proofs.rewind_next.Statement.{statement}
 use Rattle.rewind_ffi.proofs.rewind_next.Tie as tie
 
@@ -11,7 +11,7 @@ short-over-requires : tie.Need-short-over-requires
 short-over-requires c κs = search needs
 
 returns : tie.Need-returns
-returns c = let a = c .before .before .before .before .before .before .before .before .before .args in steps-told-short _ _ _ _ _ _ _ _ (told-domain (now (a .journal)) (now (a .image)) (now (a .records)) (now (a .forward)) (a .used) (a .position) (length (now (a .text)))) (c .before .if1 .taken) (c .short-over .ensures)
+returns c = let a = c .before .before .before .before .before .before .before .before .before .args in steps-told-short _ _ _ _ _ _ _ _ (step-text-domain (now (a .journal)) (now (a .image)) (now (a .records)) (now (a .forward)) (a .used) (a .position) (length (now (a .text)))) (c .before .if1 .taken) (c .short-over .ensures)
 
 rewind-next-requires : tie.Need-rewind-next-requires
 rewind-next-requires c κs = search needs

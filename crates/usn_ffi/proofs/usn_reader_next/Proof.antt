@@ -1,12 +1,12 @@
 -- Too few words of a window are refused first, and too few for the answer behind its total; otherwise the window's equation says what goes out.
 use borrow.Author.Needs.{needs}
-use Rattle.usn_answers.proofs.WindowLaws.{told-refused}
+use Rattle.usn_answers.proofs.WindowLaws.{out-refused}
 use Rattle.usn_ffi.proofs.WindowLaws.{short-reader, next-short, next-answers}
 use Rattle.usn_ffi.proofs.usn_reader_next.Statement.{statement}
 use Rattle.usn_ffi.proofs.usn_reader_next.Tie as tie
 
 returns : tie.Need-returns
-returns c = told-refused (short-reader _ _ _ (c .if1 .taken))
+returns c = out-refused (short-reader _ _ _ (c .if1 .taken))
 
 reader-of-requires : tie.Need-reader-of-requires
 reader-of-requires c κs = search needs

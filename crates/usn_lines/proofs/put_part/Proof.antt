@@ -2,7 +2,7 @@
 use native.Mathlib.Omega.{arith}
 use lib.ListN.{length-take}
 use Rattle.usn_lines.proofs.PartLaws.{head-puts, middle-puts, end-puts, records-taken}
-use Rattle.usn_lines.specs.Listing.{header}
+use Rattle.usn_lines.specs.Listing.{headerLine}
 use borrow.Author.Needs.{needs}
 use Rattle.usn_lines.proofs.put_part.Statement.{statement}
 use Rattle.usn_lines.proofs.put_part.Tie as tie
@@ -17,7 +17,7 @@ same-length : tie.Need-same-length
 same-length c = search needs
 
 returns : tie.Need-returns
-unfolding header
+unfolding headerLine
 returns c = head-puts (c .before .before .before .before .before .before .before .before .before .before .args .journal .now) _ (c .before .before .before .before .before .before .before .before .before .before .args .text .now) (c .before .before .before .before .before .before .before .before .before .before .args .forward .now) (c .before .before .before .before .before .before .before .before .before .before .args .rewind) (c .before .before .before .before .before .before .before .before .before .before .args .number) (c .before .before .before .before .before .if1 .taken) (c .before .before .put-bytes .ensures)
 
 mul-end : tie.Need-mul-end

@@ -2,7 +2,7 @@
 use denote.Ref.{now}
 use borrow.Author.Needs.{needs}
 use Rattle.base.proofs.WordLaws.{out-same, out-mapped}
-use Rattle.volume_ffi.proofs.DomainLaws.{telling-domain}
+use Rattle.volume_ffi.proofs.DomainLaws.{traced-text-domain}
 use Rattle.volume_ffi.proofs.CallLaws.{tells-short, tells-answered}
 use Rattle.volume_ffi.proofs.path_resolve.Statement.{statement}
 use Rattle.volume_ffi.proofs.path_resolve.Tie as tie
@@ -11,7 +11,7 @@ short-over-requires : tie.Need-short-over-requires
 short-over-requires c κs = search needs
 
 returns : tie.Need-returns
-returns c = tells-short _ _ _ _ _ _ _ (telling-domain (now (c .before .before .before .before .before .before .before .before .args .journal)) (now (c .before .before .before .before .before .before .before .before .args .image)) _ _ _ _) (c .before .if1 .taken) (c .short-over .ensures)
+returns c = tells-short _ _ _ _ _ _ _ (traced-text-domain (now (c .before .before .before .before .before .before .before .before .args .journal)) (now (c .before .before .before .before .before .before .before .before .args .image)) _ _ _ _) (c .before .if1 .taken) (c .short-over .ensures)
 
 path-requires : tie.Need-path-requires
 path-requires c κs = search needs

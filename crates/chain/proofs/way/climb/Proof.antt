@@ -4,7 +4,7 @@ use native.Mathlib.Omega.{arith}
 use borrow.Author.Needs.{needs}
 use Rattle.entry_slots.specs.Table.{table}
 use Rattle.chain.specs.Way.{endUnder}
-use Rattle.chain.proofs.WayLaws.{risen, risen-below, below-slots, end-told}
+use Rattle.chain.proofs.WayLaws.{risen, risen-below, below-slots, end-is}
 use Rattle.chain.proofs.way.climb.Statement.{statement}
 use Rattle.chain.proofs.way.climb.Tie as tie
 
@@ -30,7 +30,7 @@ same-length : tie.Need-same-length
 same-length c = search needs
 
 returns : tie.Need-returns
-returns c = risen (table (c .before .before .before .before .before .before .before .before .before .before .before .before .args .slots .now) (c .before .before .before .before .before .before .before .before .before .before .before .before .args .used)) (c .before .before .before .before .before .before .before .before .before .before .before .before .args .key) (c .before .before .before .before .before .before .before .before .before .before .before .before .args .way .now) (c .before .before .before .before .before .before .rise .ensures) (c .before .before .before .before .before .before .rise .kept .1 .1 .1 .1 .1 .1 .0) (end-told (c .before .before .before .before .before .before .before .before .before .before .before .before .args .slots .now) _ (c .before .before .before .before .before .before .rise .result) (c .before .before .before .before .before .before .before .before .before .before .before .before .args .key) (c .end-under .ensures) (c .before .top-key .ensures))
+returns c = risen (table (c .before .before .before .before .before .before .before .before .before .before .before .before .args .slots .now) (c .before .before .before .before .before .before .before .before .before .before .before .before .args .used)) (c .before .before .before .before .before .before .before .before .before .before .before .before .args .key) (c .before .before .before .before .before .before .before .before .before .before .before .before .args .way .now) (c .before .before .before .before .before .before .rise .ensures) (c .before .before .before .before .before .before .rise .kept .1 .1 .1 .1 .1 .1 .0) (end-is (c .before .before .before .before .before .before .before .before .before .before .before .before .args .slots .now) _ (c .before .before .before .before .before .before .rise .result) (c .before .before .before .before .before .before .before .before .before .before .before .before .args .key) (c .end-under .ensures) (c .before .top-key .ensures))
 
 pub climb-spec : {M : Type 1} → statement M
 climb-spec =

@@ -5,7 +5,7 @@ use native.Mathlib.Omega.{arith}
 use Rattle.usn_record.specs.Layout.{v2, v3}
 use Rattle.usn_record.specs.Record.{isAnswered}
 use Rattle.usn_record.proofs.RecordLaws.{v2-inside, v3-inside, listed-no-header, listed-past-end, listed-v2, listed-v3, listed-other}
-use Rattle.usn_record.proofs.TestLaws.{fits-told}
+use Rattle.usn_record.proofs.TestLaws.{fits-tested}
 use Rattle.usn_record.proofs.listed.is_listed.Statement.{statement}
 use Rattle.usn_record.proofs.listed.is_listed.Tie as tie
 
@@ -40,10 +40,10 @@ fits-record-requires-2 : tie.Need-fits-record-requires-2
 fits-record-requires-2 c κs = search needs
 
 returns-4 : tie.Need-returns-4
-returns-4 c = fits-told v2 v2-inside _ _ (c .before .before .before .before .le-u32 .ensures) (omega arith) (c .fits-record .ensures) (listed-v2 _ _ (omega arith) (c .before .before .before .before .le-u32 .ensures) (omega arith) (c .before .before .le-u16 .ensures) refl (c .before .match .keys1) refl)
+returns-4 c = fits-tested v2 v2-inside _ _ (c .before .before .before .before .le-u32 .ensures) (omega arith) (c .fits-record .ensures) (listed-v2 _ _ (omega arith) (c .before .before .before .before .le-u32 .ensures) (omega arith) (c .before .before .le-u16 .ensures) refl (c .before .match .keys1) refl)
 
 returns-5 : tie.Need-returns-5
-returns-5 c = fits-told v3 v3-inside _ _ (c .before .before .before .before .le-u32 .ensures) (omega arith) (c .fits-record2 .ensures) (listed-v3 _ _ (omega arith) (c .before .before .before .before .le-u32 .ensures) (omega arith) (c .before .before .le-u16 .ensures) refl (c .before .match .keys2) refl)
+returns-5 c = fits-tested v3 v3-inside _ _ (c .before .before .before .before .le-u32 .ensures) (omega arith) (c .fits-record2 .ensures) (listed-v3 _ _ (omega arith) (c .before .before .before .before .le-u32 .ensures) (omega arith) (c .before .before .le-u16 .ensures) refl (c .before .match .keys2) refl)
 
 returns-6 : tie.Need-returns-6
 returns-6 c = ap isAnswered (listed-other _ _ (omega arith) (c .before .before .before .le-u32 .ensures) (omega arith) (c .before .le-u16 .ensures) (c .match .rest .0 .1) (c .match .rest .1))

@@ -1,5 +1,5 @@
 -- The end's numbers stand in the row.
-use Rattle.volume_answers.proofs.PathLaws.{told-made}
+use Rattle.volume_answers.proofs.PathLaws.{written-made}
 use borrow.Author.Needs.{needs}
 use Rattle.volume_answers.proofs.paths.written_row.Statement.{statement}
 use Rattle.volume_answers.proofs.paths.written_row.Tie as tie
@@ -8,7 +8,7 @@ end-numbers-requires : tie.Need-end-numbers-requires
 end-numbers-requires c κs = search needs
 
 returns : tie.Need-returns
-returns c = told-made (c .before .args .path) (c .end-numbers .ensures) (c .before .args .text)
+returns c = written-made (c .before .args .path) (c .end-numbers .ensures) (c .before .args .text)
 
 pub written-row-spec : {M : Type 1} → statement M
 written-row-spec = tie.close (tie.spec end-numbers-requires returns)
