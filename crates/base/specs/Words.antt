@@ -18,7 +18,7 @@ number (answered a) = 0
 abbrev pub countWords : ℕ → List ℕ
 countWords n = n ∷ []
 
--- words that a call reads: where they are fewer than it needs, it is refused before anything else
+-- words of a window, or others that a call has to have: where they are fewer, it is refused before anything else
 unfoldable pub withRoom : {A : Type 0} → ℕ → ℕ → Outcome A → Outcome A
 withRoom words room x = cond (ltb room words) (refused listFull) x
 

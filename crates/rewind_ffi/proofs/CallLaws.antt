@@ -17,7 +17,7 @@ use Rattle.rewind_run.specs.Promise.{RunsIndexed}
 use Rattle.rewind_run.proofs.CallLaws.{left-refused}
 use Rattle.volume_answers.specs.Domain.{eitherAbove}
 use Rattle.rewind_ffi.specs.Rewind.{startWords}
-use Rattle.rewind_ffi.specs.Run.{rowOf}
+use Rattle.volume_answers.specs.Rewind.{rowOf}
 use Rattle.rewind_ffi.specs.Promise.{firstOf, StartCalls, RunCalls}
 use Rattle.rewind_ffi.proofs.DomainLaws.{run-domain}
 

@@ -1,21 +1,18 @@
 -- A run of steps as a C call.
 use Prim.Native.Nat.{ℕ}
-use mathlib.Core.List.{List, [], _∷_}
+use mathlib.Core.List.{List}
 use lib.ListN.{length}
 use Rattle.base.specs.Outcome.{Outcome}
 use Rattle.base.specs.Words.{afterDomain}
 use Rattle.rewind.specs.declared.Rewind.{Rewind}
 use Rattle.rewind_run.specs.Running.{Run, testedRun, runAnswer}
-use Rattle.rewind_run.specs.declared.RewindRun.{RewindRun}
+use Rattle.volume_answers.specs.Rewind.{rowOf}
 
 -- with lent words for the forward table, for the ends of the texts and for the answer
 abbrev pub runCall : List ℕ → List ℕ → List ℕ → Rewind → List ℕ → List ℕ → List ℕ → List ℕ → Outcome Run
 runCall journal image records r forward ends text out =
     afterDomain 4 (length out) (testedRun journal image records forward r (length text) (length ends))
 
--- its answer as words: the steps that were made, 0 or what stopped it, and the state after them
-abbrev pub rowOf : RewindRun → List ℕ
-rowOf x = x .steps ∷ x .stopped ∷ x .rewind .used ∷ x .rewind .position ∷ []
-
+-- what it answers as words
 abbrev pub runWords : Run → List ℕ
 runWords x = rowOf (runAnswer x)

@@ -9,28 +9,18 @@
 // Every function here is proved, and none has a `requires`. A refused call writes nothing. One that answers writes of its list the words
 // of its answer alone: those past them stay as they were. Too few words for the answer are refused with 5 directly behind 1, before
 // everything else. What lies in the words for an index, specs/Promise.antt says.
-ghost use mathlib.Core.Path.{_≡_};
 ghost use Rattle.rewind_ffi.specs.Promise.{StartCallPromise, NextChainCallPromise, NextCallPromise, StartIndexedCallPromise, RunCallPromise};
 ghost use Rattle.rewind_ffi.specs.Rewind.{rewindOf};
-ghost use Prim.Native.Nat.{_≤_};
-ghost use lib.ListN.{length};
-ghost use Rattle.base.specs.Words.{AnswerPromise};
-ghost use Rattle.rewind_run.specs.Running.{runOutcome};
-ghost use Rattle.rewind_ffi.specs.Run.{rowOf};
-use base::words::put_row;
 use rewind::Rewind;
-use rewind_run::RewindRun;
-use rewind_run::RunAnswer;
 use volume_answers::domain::short_over;
 use volume_answers::rewinds::CHAIN_STEP_WORDS;
 use volume_answers::rewinds::PATH_STEP_WORDS;
+use volume_answers::rewinds::RUN_WORDS;
 use volume_answers::rewinds::START_WORDS;
 use volume_answers::rewinds::put_chain_step;
 use volume_answers::rewinds::put_path_step;
+use volume_answers::rewinds::put_run;
 use volume_answers::rewinds::put_start;
-
-// The words of a run's answer.
-const RUN_WORDS: usize = 4;
 
 // The start of a rewind, over records as a reader lists them, two words each, of which the offset counts: they go into the table
 // of seven words a slot, of which used are used, from the last to the first, an old name of a rename in place of a known entry and
@@ -195,28 +185,4 @@ pub extern "C" fn rewind_run(
         ),
         out,
     )
-}
-
-// The answer of a call: 0 with the words of its run in front of the lent ones, or the refusal.
-fn put_run(answer: RunAnswer, out: &mut [u64]) -> u32
-    requires { ⌜ 4 ≤ length (now out) ⌝ }
-    ensures { λ r. ⌜ AnswerPromise rowOf (runOutcome answer) out r ⌝ }
-{
-    match answer {
-        RunAnswer::Ran(run) => put_row(&run_row(run), out),
-        RunAnswer::Refused(n) => n,
-    }
-}
-
-// A run, a word each number.
-fn run_row(run: RewindRun) -> [u64; 4]
-    ensures { λ row. ⌜ row ≡ rowOf run ⌝ }
-{
-    let rewind = run.rewind;
-    [
-        run.steps as u64,
-        run.stopped as u64,
-        rewind.used as u64,
-        rewind.position as u64,
-    ]
 }

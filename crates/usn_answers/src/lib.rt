@@ -5,6 +5,6 @@
 //
 // Every function here is proved. The public ones are helpers of our own crates, and ask for lists that are long enough.
 pub mod carver;
-pub mod journal;
 pub mod record_words;
+pub mod scan;
 pub mod window;

@@ -1,4 +1,4 @@
-pub mod Journal
+pub mod Scan
 pub mod Window
 pub mod Carver
 pub mod Promise

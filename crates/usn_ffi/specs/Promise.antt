@@ -13,7 +13,7 @@ use Rattle.usn_record.specs.declared.UsnRecord.{UsnRecord}
 use Rattle.usn_carver.specs.Events.{statsWords}
 use Rattle.usn_answers.specs.Window.{readerWords, windowWords, readingWords, ReadingPromise}
 use Rattle.usn_ffi.specs.Carver.{carveCall, carvedWords}
-use Rattle.usn_ffi.specs.Journal.{journalCall, journalWords}
+use Rattle.usn_ffi.specs.Scan.{scanCall, scanWords}
 use Rattle.usn_ffi.specs.Window.{newCall, nextCall, giveCall, giveBuffer}
 
 -- a record
@@ -28,8 +28,8 @@ abbrev pub ListedPromise : Lent → ℕ → Lent → ℕ → Type 0
 ListedPromise extract offset words r = RecordPromise (listed (before extract) offset) words r
 
 -- the places of the records of an extract, and their number
-abbrev pub JournalPromise : Lent → Lent → Lent → ℕ → Type 0
-JournalPromise extract list out r = ListPromise (flatten placeWords) journalWords (journalCall (before extract) (before list) (before out)) list out r
+abbrev pub ScanPromise : Lent → Lent → Lent → ℕ → Type 0
+ScanPromise extract list out r = ListPromise (flatten placeWords) scanWords (scanCall (before extract) (before list) (before out)) list out r
 
 -- the places of the records in raw bytes, and the counters
 abbrev pub CarvePromise : Lent → Lent → Lent → ℕ → Type 0

@@ -12,16 +12,16 @@
 // of its answer alone: those past them stay as they were. Too few words for the answer are refused with 5 directly behind 1, before
 // everything else; too few words of a window, which a call has to read, before 1 too.
 ghost use Rattle.usn_record.specs.Layout.{v2, v3};
-ghost use Rattle.usn_ffi.specs.Promise.{ParsePromise, ListedPromise, JournalPromise, CarvePromise, NewPromise, NextPromise, GivePromise};
+ghost use Rattle.usn_ffi.specs.Promise.{ParsePromise, ListedPromise, ScanPromise, CarvePromise, NewPromise, NextPromise, GivePromise};
 use base::DOMAIN;
 use base::LIST_FULL;
 use base::words::short;
 use usn_answers::carver::STATS_WORDS;
 use usn_answers::carver::put_stats;
-use usn_answers::journal::COUNT_WORDS;
-use usn_answers::journal::put_count;
 use usn_answers::record_words::RECORD_WORDS;
 use usn_answers::record_words::put_record;
+use usn_answers::scan::COUNT_WORDS;
+use usn_answers::scan::put_count;
 use usn_answers::window::READER_WORDS;
 use usn_answers::window::READING_WORDS;
 use usn_answers::window::put_reader;
@@ -70,7 +70,7 @@ pub extern "C" fn usn_listed_record(extract: &[u8], offset: usize, words: &mut [
 // of list. Answers 0, or refuses: 1 the extract is above the domain, 5 out has no word, or list fewer than two for each record.
 #[no_mangle]
 pub extern "C" fn usn_parse_journal(extract: &[u8], list: &mut [usize], out: &mut [u64]) -> u32
-    ensures { λ r. ⌜ JournalPromise extract list out r ⌝ }
+    ensures { λ r. ⌜ ScanPromise extract list out r ⌝ }
 {
     if out.len() < COUNT_WORDS {
         return short(DOMAIN < extract.len());

@@ -3,6 +3,7 @@ use Prim.Native.Nat.{ℕ}
 use mathlib.Core.List.{List, [], _∷_, _++_}
 use Rattle.rewind_records.specs.Turning.{Next, ended, next}
 use Rattle.rewind.specs.declared.Rewind.{Rewind}
+use Rattle.rewind_run.specs.declared.RewindRun.{RewindRun}
 
 -- a state
 abbrev pub rewindWords : Rewind → List ℕ
@@ -12,3 +13,7 @@ rewindWords r = r .used ∷ r .position ∷ []
 abbrev pub nextWords : {A : Type 0} → (A → List ℕ) → Rewind → Next A → List ℕ
 nextWords words r ended = 0 ∷ rewindWords r
 nextWords words r (next a) = 1 ∷ (rewindWords r ++ words a)
+
+-- an answer of a run: the steps that were made, 0 or what stopped it, and the state after them
+abbrev pub rowOf : RewindRun → List ℕ
+rowOf x = x .steps ∷ x .stopped ∷ x .rewind .used ∷ x .rewind .position ∷ []

@@ -8,7 +8,8 @@ ghost use Rattle.rewind.specs.Starting.{startOutcome};
 ghost use Rattle.rewind.specs.Stepping.{outcome as stepOutcome};
 ghost use Rattle.rewind.specs.Written.{writtenOutcome};
 ghost use Rattle.volume_answers.specs.Path.{resolvedWords, writtenWords};
-ghost use Rattle.volume_answers.specs.Rewind.{rewindWords, nextWords};
+ghost use Rattle.rewind_run.specs.Running.{runOutcome};
+ghost use Rattle.volume_answers.specs.Rewind.{rewindWords, nextWords, rowOf};
 use crate::paths::resolved_row;
 use crate::paths::written_row;
 use base::words::put_row;
@@ -19,13 +20,17 @@ use rewind::NextPath;
 use rewind::PathStep;
 use rewind::Rewind;
 use rewind::Started;
+use rewind_run::RewindRun;
+use rewind_run::RunAnswer;
 
-// The words of a start's answer, and those of the longest answer of a step, a record's, without text and with it.
+// The words of a start's answer, those of the longest answer of a step, a record's, without text and with it, and those of a run's.
 pub const START_WORDS: usize = 2;
 
 pub const CHAIN_STEP_WORDS: usize = 7;
 
 pub const PATH_STEP_WORDS: usize = 8;
+
+pub const RUN_WORDS: usize = 4;
 
 // The first word of a step's answer.
 const KIND_END: u64 = 0;
@@ -91,4 +96,28 @@ fn state_row(kind: u64, rewind: Rewind) -> [u64; 3]
     ensures { λ row. ⌜ row ≡ kind ∷ rewindWords rewind ⌝ }
 {
     [kind, rewind.used as u64, rewind.position as u64]
+}
+
+// A run's answer: 0 with its words in front of the lent ones, or the refusal.
+pub fn put_run(answer: RunAnswer, out: &mut [u64]) -> u32
+    requires { ⌜ 4 ≤ length (now out) ⌝ }
+    ensures { λ r. ⌜ AnswerPromise rowOf (runOutcome answer) out r ⌝ }
+{
+    match answer {
+        RunAnswer::Ran(run) => put_row(&run_row(run), out),
+        RunAnswer::Refused(n) => n,
+    }
+}
+
+// A run, a word each number.
+fn run_row(run: RewindRun) -> [u64; RUN_WORDS]
+    ensures { λ row. ⌜ row ≡ rowOf run ⌝ }
+{
+    let rewind = run.rewind;
+    [
+        run.steps as u64,
+        run.stopped as u64,
+        rewind.used as u64,
+        rewind.position as u64,
+    ]
 }

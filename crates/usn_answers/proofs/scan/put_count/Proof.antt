@@ -4,8 +4,8 @@ use mathlib.Core.Path.{refl, ap}
 use Rattle.base.proofs.WordLaws.{row-out}
 use Rattle.base.specs.Words.{countWords}
 use Rattle.usn_scan.specs.Outcome.{scanOutcome}
-use Rattle.usn_answers.proofs.journal.put_count.Statement.{statement}
-use Rattle.usn_answers.proofs.journal.put_count.Tie as tie
+use Rattle.usn_answers.proofs.scan.put_count.Statement.{statement}
+use Rattle.usn_answers.proofs.scan.put_count.Tie as tie
 
 enum-known-scanned : tie.Need-enum-known-scanned
 enum-known-scanned c = search needs

@@ -2,10 +2,10 @@
 use mathlib.Core.Path.{ap}
 use Rattle.base.proofs.WordLaws.{row-out}
 use Rattle.rewind_run.specs.Running.{runOutcome}
-use Rattle.rewind_ffi.specs.Run.{rowOf}
+use Rattle.volume_answers.specs.Rewind.{rowOf}
 use borrow.Author.Needs.{needs}
-use Rattle.rewind_ffi.proofs.put_run.Statement.{statement}
-use Rattle.rewind_ffi.proofs.put_run.Tie as tie
+use Rattle.volume_answers.proofs.rewinds.put_run.Statement.{statement}
+use Rattle.volume_answers.proofs.rewinds.put_run.Tie as tie
 
 enum-known-answer : tie.Need-enum-known-answer
 enum-known-answer c = search needs

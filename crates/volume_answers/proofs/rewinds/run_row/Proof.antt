@@ -1,7 +1,7 @@
 -- The words are the answer's numbers in their order.
 use borrow.Author.Needs.{needs}
-use Rattle.rewind_ffi.proofs.run_row.Statement.{statement}
-use Rattle.rewind_ffi.proofs.run_row.Tie as tie
+use Rattle.volume_answers.proofs.rewinds.run_row.Statement.{statement}
+use Rattle.volume_answers.proofs.rewinds.run_row.Tie as tie
 
 cast-t4 : tie.Need-cast-t4
 cast-t4 c = search needs

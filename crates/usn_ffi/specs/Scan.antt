@@ -8,9 +8,9 @@ use Rattle.base.specs.declared.Place.{Place}
 use Rattle.usn_scan.specs.Outcome.{scan}
 
 -- the scan of s, with lent lists for the records' places and for their number
-abbrev pub journalCall : List ℕ → List ℕ → List ℕ → Outcome (List Place)
-journalCall s list out = afterDomain 1 (length out) (scan s (length list))
+abbrev pub scanCall : List ℕ → List ℕ → List ℕ → Outcome (List Place)
+scanCall s list out = afterDomain 1 (length out) (scan s (length list))
 
 -- the number of the records as a word
-abbrev pub journalWords : List Place → List ℕ
-journalWords ps = countWords (length ps)
+abbrev pub scanWords : List Place → List ℕ
+scanWords ps = countWords (length ps)
