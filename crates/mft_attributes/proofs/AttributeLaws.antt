@@ -15,6 +15,7 @@ use Rattle.usn_record.specs.Fields.{referenceOf}
 use Rattle.usn_record.specs.declared.fields.Reference.{Reference}
 use Rattle.mft_attributes.specs.Filename.{Attribute, other, named}
 use Rattle.mft_attributes.specs.Attributes.{fileName, endMarker, fixed, AttributeHeader, attributeHeaderAt, Content, contentAt, isFilename, contentFilename, given, attributeAt, attributeVisit}
+use Rattle.mft_attributes.specs.Step.{filenameAt}
 use Rattle.mft_attributes.specs.declared.filename.Filename.{Filename}
 
 -- the attribute at a gives no name by its type
@@ -75,22 +76,19 @@ module _ (e : List ℕ) (a : ℕ) (t : fileName ≡ leAt 4 e a) (b : a + 8 < len
     pub past-name : a + n < a + k + fixed + 2 * u → other ≡ attributeAt e a (attributeHeaderAt e a)
     past-name i = content (given-past (length e) (a + n) (a + k) (contentAt e (a + k)) (omega (arith, eu)))
 
-    module _ (i : 2 * u ≡ 0 → ⊥) (j : a + k + fixed + 2 * u ≤ a + n) (l : a + n ≤ length e)
-        {p : ℕ} (ep : p ≡ leAt 8 e (a + k)) {q : Reference} (eq : q ≡ referenceOf true (p + 0 * 2 ^ 64)) {s : ℕ} (es : s ≡ contentAt e (a + k) .namespace) where
-      some : 0 < u
-      some = positive u i
-        where
-          positive : (u : ℕ) → (2 * u ≡ 0 → ⊥) → 0 < u
-          positive zero h = absurd (h refl)
-          positive (suc u) h = omega arith
+    pub gives-name : (2 * u ≡ 0 → ⊥) → a + k + fixed + 2 * u ≤ a + n → a + n ≤ length e → named (filenameAt e (a + k)) ≡ attributeAt e a (attributeHeaderAt e a)
+    gives-name i j l =
+        content (given-name (length e) (a + n) (a + k) (contentAt e (a + k)) (omega (arith, eu, positive u i)) (omega (arith, eu)) (omega (arith, eu)))
+      where
+        positive : (u : ℕ) → (2 * u ≡ 0 → ⊥) → 0 < u
+        positive zero h = absurd (h refl)
+        positive (suc u) h = omega arith
 
-      assembled : _≡_ {A = Filename} (record { place = record { offset = a + k + fixed; length = 2 * u }; parent = q; namespace = s }) (contentFilename (a + k) (contentAt e (a + k)))
-      assembled = let z : q ≡ referenceOf true (leAt 8 e (a + k)) = eq ∙ ap (referenceOf true) (add-zero p ∙ ep) in cc (eu, z, es)
-
-      pub gives-name : named (record { place = record { offset = a + k + fixed; length = 2 * u }; parent = q; namespace = s }) ≡ attributeAt e a (attributeHeaderAt e a)
-      gives-name =
-          ap named assembled
-          ∙ content (given-name (length e) (a + n) (a + k) (contentAt e (a + k)) (omega (arith, eu, some)) (omega (arith, eu)) (omega (arith, eu)))
+-- the name that content at c has, put together from what was read of it
+pub assembled : (e : List ℕ) (c : ℕ) {u : ℕ} → u ≡ leAt 1 e (c + 64) → {p : ℕ} → p ≡ leAt 8 e c → {q : Reference} → q ≡ referenceOf true (p + 0 * 2 ^ 64)
+    → {s : ℕ} → s ≡ contentAt e c .namespace
+    → _≡_ {A = Filename} (record { place = record { offset = c + fixed; length = 2 * u }; parent = q; namespace = s }) (filenameAt e c)
+assembled e c eu {p} ep {q} eq es = let z : q ≡ referenceOf true (leAt 8 e c) = eq ∙ ap (referenceOf true) (add-zero p ∙ ep) in cc (eu, z, es)
 
 -- the ways out of a visit, with t and n the type and the length as they were read
 module _ (e : List ℕ) (a : ℕ) where

@@ -1,15 +1,16 @@
 // The attributes of an entry, one after the other, and the best name among them.
 ghost use mathlib.Core.Path.{_≡_};
-ghost use Prim.Native.Nat.{_+_, _≤_};
+ghost use Prim.Native.Nat.{_+_, _≤_, _<_};
 ghost use lib.ListN.{length};
 ghost use Rattle.base.specs.Walk.{go};
 ghost use mathlib.Core.List.{[], _∷_};
 ghost use Rattle.usn_record.specs.Bytes.{leAt};
-ghost use Rattle.mft_attributes.specs.Attributes.{fileName, attributeHeaderAt, attributeAt, attributeVisit, filenameIn};
-ghost use Rattle.mft_attributes.specs.Step.{attributeOf};
+ghost use Rattle.mft_attributes.specs.Attributes.{fileName, attributeHeaderAt, contentAt, attributeAt, attributeVisit, filenameIn};
+ghost use Rattle.mft_attributes.specs.Filename.{keep};
+ghost use Rattle.mft_attributes.specs.Step.{attributeOf, filenameAt, keptAt};
 use crate::filename::Filename;
 use crate::filename::Kept;
-use crate::filename::keep_better;
+use crate::filename::dominated;
 use base::Place;
 use usn_record::bytes::byte_at;
 use usn_record::bytes::le_u16;
@@ -22,18 +23,31 @@ const ATTR_FILE_NAME: u32 = 0x30;
 // The mark after the last attribute.
 const ATTR_END_MARKER: u32 = 0xFFFF_FFFF;
 
-// What stands at an offset: the end of the walk, or an attribute, one that gives a name or another, and the offset past it.
+// What stands at an offset: the end of the walk, or an attribute, one that gives a name or another, and the offset past it. A name is
+// told by where the content lies that has it.
 pub enum AttributeStep {
     End,
     Other(usize),
-    Named(Filename, usize),
+    Named(usize, usize),
 }
 
 // The best name among the first attributes, from first on, at most walked of them.
 pub fn best_filename(entry: &[u8], first: usize, walked: usize) -> Kept
     ensures { λ r. ⌜ r ≡ filenameIn walked (now (entry .entry)) first ⌝ }
 {
-    let mut best = Kept::Nothing;
+    let c = best_content(entry, first, walked);
+    if c < entry.len() {
+        return Kept::Name(filename_at(entry, c));
+    }
+    Kept::Nothing
+}
+
+// Where the content lies that has that name; the end of the entry where there is none. An offset is kept and no name, which would be
+// copied at every attribute.
+fn best_content(entry: &[u8], first: usize, walked: usize) -> usize
+    ensures { λ r. ⌜ keptAt (now (entry .entry)) r ≡ filenameIn walked (now (entry .entry)) first ⌝ }
+{
+    let mut best = entry.len();
     let mut a = first;
     let mut left = walked;
     while 0 < left {
@@ -41,8 +55,8 @@ pub fn best_filename(entry: &[u8], first: usize, walked: usize) -> Kept
         match attribute_step(entry, a) {
             AttributeStep::End => return best,
             AttributeStep::Other(next) => a = next,
-            AttributeStep::Named(name, next) => {
-                best = keep_better(best, name);
+            AttributeStep::Named(content, next) => {
+                best = better(entry, best, content);
                 a = next;
             }
         }
@@ -50,9 +64,46 @@ pub fn best_filename(entry: &[u8], first: usize, walked: usize) -> Kept
     best
 }
 
+// Of the content whose name is kept, if there is one, and another the one whose name is kept then.
+fn better(entry: &[u8], best: usize, content: usize) -> usize
+    requires { ⌜ content < length (now entry) ⌝ }
+    ensures { λ r. ⌜ keptAt (now (entry .entry)) r ≡ keep (keptAt (now (entry .entry)) best) (filenameAt (now (entry .entry)) content) ⌝ }
+{
+    if entry.len() <= best {
+        return content;
+    }
+    if dominated(namespace_at(entry, best), namespace_at(entry, content)) {
+        return content;
+    }
+    best
+}
+
+// The name that the content at c has.
+fn filename_at(entry: &[u8], c: usize) -> Filename
+    requires { ⌜ c < length (now entry) ⌝ }
+    ensures { λ r. ⌜ r ≡ filenameAt (now (entry .entry)) c ⌝ }
+{
+    Filename {
+        place: Place {
+            offset: c + 66,
+            length: 2 * (byte_at(entry, c + 64) as usize),
+        },
+        parent: parts_of(le_u64(entry, c), 0, true),
+        namespace: namespace_at(entry, c),
+    }
+}
+
+// The namespace of that name.
+fn namespace_at(entry: &[u8], c: usize) -> u8
+    requires { ⌜ c < length (now entry) ⌝ }
+    ensures { λ r. ⌜ r ≡ contentAt (now (entry .entry)) c .namespace ⌝ }
+{
+    byte_at(entry, c + 65)
+}
+
 // The attribute at a.
 fn attribute_step(entry: &[u8], a: usize) -> AttributeStep
-    ensures { λ r. ⌜ attributeOf r ≡ attributeVisit (now (entry .entry)) a ⌝ }
+    ensures { λ r. ⌜ attributeOf (now (entry .entry)) r ≡ attributeVisit (now (entry .entry)) a ⌝ }
 {
     let end = entry.len();
     if end < 8 {
@@ -82,7 +133,7 @@ fn attribute_step(entry: &[u8], a: usize) -> AttributeStep
 // more is read then.
 fn filename_step(entry: &[u8], a: usize, size: usize) -> AttributeStep
     requires { ⌜ (fileName ≡ leAt 4 (now entry) a) × (size ≡ leAt 4 (now entry) (a + 4)) × (8 ≤ size) × (a + size ≤ length (now entry)) ⌝ }
-    ensures { λ r. ⌜ attributeOf r ≡ go (attributeAt (now (entry .entry)) a (attributeHeaderAt (now (entry .entry)) a) ∷ []) (a + size) ⌝ }
+    ensures { λ r. ⌜ attributeOf (now (entry .entry)) r ≡ go (attributeAt (now (entry .entry)) a (attributeHeaderAt (now (entry .entry)) a) ∷ []) (a + size) ⌝ }
 {
     let next = a + size;
     if entry.len() - a <= 8 {
@@ -105,15 +156,5 @@ fn filename_step(entry: &[u8], a: usize, size: usize) -> AttributeStep
     if next < c + 66 + length {
         return AttributeStep::Other(next);
     }
-    AttributeStep::Named(
-        Filename {
-            place: Place {
-                offset: c + 66,
-                length,
-            },
-            parent: parts_of(le_u64(entry, c), 0, true),
-            namespace: byte_at(entry, c + 65),
-        },
-        next,
-    )
+    AttributeStep::Named(c, next)
 }

@@ -1,6 +1,6 @@
 // The names of an entry, and which of them is kept.
 ghost use mathlib.Core.Path.{_≡_};
-ghost use Rattle.mft_attributes.specs.Filename.{replaces, keep};
+ghost use Rattle.mft_attributes.specs.Filename.{replaces};
 use base::Place;
 use usn_record::fields::Reference;
 
@@ -24,24 +24,8 @@ pub enum Kept {
     Name(Filename),
 }
 
-// What is kept after one more name.
-pub(crate) fn keep_better(kept: Kept, new: Filename) -> Kept
-    ensures { λ r. ⌜ r ≡ keep kept new ⌝ }
-{
-    match kept {
-        Kept::Nothing => Kept::Name(new),
-        Kept::Name(old) => {
-            if dominated(old.namespace, new.namespace) {
-                Kept::Name(new)
-            } else {
-                Kept::Name(old)
-            }
-        }
-    }
-}
-
 // Whether a name of namespace new replaces one of namespace old.
-fn dominated(old: u8, new: u8) -> bool
+pub(crate) fn dominated(old: u8, new: u8) -> bool
     ensures { λ r. ⌜ r ≡ replaces old new ⌝ }
 {
     if old == NS_WIN32 {

@@ -1,71 +1,21 @@
--- The invariant: what is kept, with the attributes left, is what is kept at the end.
+-- What is kept, by where it lies.
+use Rattle.mft_attributes.proofs.FilenameLaws.{kept-name, kept-none}
 use borrow.Author.Needs.{needs}
-use native.Mathlib.Omega.{arith}
-use Rattle.mft_attributes.proofs.FilenameLaws.{Keeping, keeping-start, keeping-none, keeping-end, keeping-other, keeping-named}
 use Rattle.mft_attributes.proofs.attributes.best_filename.Statement.{statement}
 use Rattle.mft_attributes.proofs.attributes.best_filename.Tie as tie
 
-abbrev Inv-loop : tie.InvT-loop
-Inv-loop entry first walked best₀ a₀ left₀ best a left = Keeping entry first walked best a left
+best-content-requires : tie.Need-best-content-requires
+best-content-requires c κs = search needs
 
-abbrev μ-loop : tie.MeasureT-loop
-μ-loop entry first walked best₀ a₀ left₀ best a left = left
+filename-at-requires : tie.Need-filename-at-requires
+filename-at-requires c κs = search needs
 
-loop-holds : tie.Need-loop-holds Inv-loop μ-loop
-loop-holds c = keeping-start _ _ _
+returns : tie.Need-returns
+returns c = kept-name _ (c .before .before .best-content .ensures) (c .before .if1 .taken) (c .filename-at .ensures)
 
-sub-left : tie.Need-sub-left Inv-loop μ-loop
-sub-left c = omega arith
-
-attribute-step-requires : tie.Need-attribute-step-requires Inv-loop μ-loop
-attribute-step-requires c κs = tt
-
-enum-told : tie.Need-enum-told Inv-loop μ-loop
-enum-told c = search needs
-
-returns : tie.Need-returns Inv-loop μ-loop
-returns c = keeping-end (c .before .before .before .before .loop .inv) (c .before .before .before .loop-test .taken) (c .enum-told .given .1) (c .before .before .attribute-step .ensures)
-
-enum-known-next : tie.Need-enum-known-next Inv-loop μ-loop
-enum-known-next c = search needs
-
-loop-less : tie.Need-loop-less Inv-loop μ-loop
-loop-less c = omega arith
-
-loop-again : tie.Need-loop-again Inv-loop μ-loop
-loop-again c = keeping-other (c .before .before .before .before .before .loop .inv) (c .before .before .before .before .loop-test .taken) (c .before .next .given .1) (c .before .before .before .attribute-step .ensures)
-
-enum-known-name : tie.Need-enum-known-name Inv-loop μ-loop
-enum-known-name c = search needs
-
-keep-better-requires : tie.Need-keep-better-requires Inv-loop μ-loop
-keep-better-requires c κs = tt
-
-loop-less-2 : tie.Need-loop-less-2 Inv-loop μ-loop
-loop-less-2 c = omega arith
-
-loop-again-2 : tie.Need-loop-again-2 Inv-loop μ-loop
-loop-again-2 c = keeping-named (c .before .before .before .before .before .before .loop .inv) (c .before .before .before .before .before .loop-test .taken) (c .before .before .name .given .1) (c .before .before .before .before .attribute-step .ensures) (c .keep-better .ensures)
-
-returns-2 : tie.Need-returns-2 Inv-loop μ-loop
-returns-2 c = keeping-none (c .before .loop .inv) (c .loop-test .left)
+returns-2 : tie.Need-returns-2
+returns-2 c = kept-none _ (c .before .best-content .ensures) (c .if1 .left)
 
 pub best-filename-spec : {M : Type 1} → statement M
 best-filename-spec =
-    tie.close
-    (tie.spec
-    Inv-loop
-    μ-loop
-    loop-holds
-    sub-left
-    attribute-step-requires
-    enum-told
-    returns
-    enum-known-next
-    loop-less
-    loop-again
-    enum-known-name
-    keep-better-requires
-    loop-less-2
-    loop-again-2
-    returns-2)
+    tie.close (tie.spec best-content-requires filename-at-requires returns returns-2)

@@ -74,23 +74,8 @@ add-if6-2 c = search needs
 returns-6 : tie.Need-returns-6
 returns-6 c = stepped _ (past-name _ _ (c .before .before .before .before .before .before .before .before .before .before .before .pre .0) (omega arith) (c .before .before .before .before .before .before .before .before .byte-at .ensures) (c .before .before .before .before .before .before .before .if2 .left) (c .before .before .before .before .before .before .le-u32 .ensures) (c .before .before .before .before .before .if3 .left) (c .before .before .before .before .before .before .before .before .before .before .before .pre .1) (c .before .before .before .before .le-u16 .ensures) (c .before .before .byte-at2 .ensures) (c .if6 .taken))
 
-add-t7 : tie.Need-add-t7
-add-t7 c = search needs
-
-le-u64-requires : tie.Need-le-u64-requires
-le-u64-requires c κs = search needs
-
-parts-of-requires : tie.Need-parts-of-requires
-parts-of-requires c κs = search needs
-
-add-byte-at-3 : tie.Need-add-byte-at-3
-add-byte-at-3 c = search needs
-
-byte-at-requires-3 : tie.Need-byte-at-requires-3
-byte-at-requires-3 c κs = search needs
-
 returns-7 : tie.Need-returns-7
-returns-7 c = stepped _ (gives-name _ _ (c .before .before .before .before .before .before .before .before .before .before .before .before .before .before .pre .0) (omega arith) (c .before .before .before .before .before .before .before .before .before .before .before .byte-at .ensures) (c .before .before .before .before .before .before .before .before .before .before .if2 .left) (c .before .before .before .before .before .before .before .before .before .le-u32 .ensures) (c .before .before .before .before .before .before .before .before .if3 .left) (c .before .before .before .before .before .before .before .before .before .before .before .before .before .before .pre .1) (c .before .before .before .before .before .before .before .le-u16 .ensures) (c .before .before .before .before .before .byte-at2 .ensures) (c .before .before .before .before .if5 .left) (c .before .before .before .if6 .left) (c .before .before .before .before .before .before .before .before .before .before .before .before .before .before .pre .3) (c .before .before .le-u64 .ensures) (c .before .parts-of .ensures) (c .byte-at3 .ensures))
+returns-7 c = stepped _ (gives-name _ _ (c .before .before .before .before .before .before .before .before .before .before .before .pre .0) (omega arith) (c .before .before .before .before .before .before .before .before .byte-at .ensures) (c .before .before .before .before .before .before .before .if2 .left) (c .before .before .before .before .before .before .le-u32 .ensures) (c .before .before .before .before .before .if3 .left) (c .before .before .before .before .before .before .before .before .before .before .before .pre .1) (c .before .before .before .before .le-u16 .ensures) (c .before .before .byte-at2 .ensures) (c .before .if5 .left) (c .if6 .left) (c .before .before .before .before .before .before .before .before .before .before .before .pre .3))
 
 pub filename-step-spec : {M : Type 1} → statement M
 filename-step-spec =
@@ -119,9 +104,4 @@ filename-step-spec =
     add-if6
     add-if6-2
     returns-6
-    add-t7
-    le-u64-requires
-    parts-of-requires
-    add-byte-at-3
-    byte-at-requires-3
     returns-7)
