@@ -2,13 +2,14 @@
 use Prim.Native.Nat.{ℕ, _/_, _≤_, _<_}
 use mathlib.Core.Path.{_≡_, ap, _∙_}
 use mathlib.Core.List.{List}
+use mathlib.Core.Bool.{true}
 use lib.ListN.{length}
 use borrow.Author.Tests.{lt-ltb, le-ltb}
 use Rattle.base.specs.Outcome.{refused, answered}
 use Rattle.base.specs.Refusals.{aboveDomain, listFull, domain}
 use Rattle.mft_carver.specs.declared.Settings.{Settings}
 use Rattle.mft_carver.specs.Carve.{events, carving, entriesIn, statsIn, entryStride}
-use Rattle.mft_carver.specs.Promise.{Carves, Fills}
+use Rattle.mft_carver.specs.Promise.{Carves, Passes}
 use Rattle.mft_carver.specs.declared.MftCarving.the-variants.{Carved, Refused}
 use Rattle.mft_carver.specs.declared.MftCarvingStats.{MftCarvingStats}
 
@@ -30,7 +31,7 @@ module _ (st : Settings) (s l : List ℕ) where
     answers h e = ap answered e ∙ simp (le-ltb _ _ a, le-ltb _ _ h)
 
     -- x and l′ are what the loop that fills the list answers and leaves
-    pub carves : length (entriesIn st s) ≤ length l / entryStride → {x : MftCarvingStats} {l′ : List ℕ} → Fills st s l x l′ → Carves st s l (Carved x) l′
+    pub carves : length (entriesIn st s) ≤ length l / entryStride → {x : MftCarvingStats} {l′ : List ℕ} → Passes st s true l x l′ → Carves st s l (Carved x) l′
     carves h f = let e = answers h (f .counters) in record { answer = e; list-is = rw (← e) (f .list-is) }
 
 -- runs with the same events come out the same

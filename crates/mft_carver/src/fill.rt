@@ -1,12 +1,13 @@
-// The loops over an image: one that fills a lent list and counts, and one that asks whether the list has room.
+// The pass over an image, which fills a lent list and counts, or counts alone, and whether the list has room.
 ghost use mathlib.Core.Path.{_≡_};
 ghost use mathlib.Core.List.{[]};
-ghost use Prim.Native.Nat.{_≤_};
+ghost use mathlib.Core.Bool.{true};
+ghost use Prim.Native.Nat.{_+_, _*_, _≤_};
 ghost use lib.ListN.{length};
 ghost use lib.Dec.{leb};
 ghost use Rattle.base.specs.Refusals.{domain};
-ghost use Rattle.mft_carver.specs.Carve.{statsOf, entriesIn, entryWords};
-ghost use Rattle.mft_carver.specs.Promise.{FillAsks, FillPromise};
+ghost use Rattle.mft_carver.specs.Carve.{statsOf, entriesIn, entryStride, entryWords};
+ghost use Rattle.mft_carver.specs.Promise.{entryPut, PassAsks, PassPromise};
 use crate::CarvedMftEntry;
 use crate::ENTRY_WORDS;
 use crate::MftCarvingStats;
@@ -32,24 +33,21 @@ fn count_entries(image: &[u8], settings: Settings) -> usize
     requires { ⌜ (1 ≤ settings .size) × (length (now image) ≤ domain) ⌝ }
     ensures { λ r. ⌜ r ≡ length (entriesIn settings (now (image .entry))) ⌝ }
 {
-    let mut n: usize = 0;
-    let mut o: usize = 0;
-    loop {
-        match carve_step(image, o, settings) {
-            CarveStep::Stop => return n,
-            CarveStep::Move(next) | CarveStep::Rejected(next) => o = next,
-            CarveStep::Carved(_, next) => {
-                n += 1;
-                o = next;
-            }
-        }
-    }
+    let mut none: [u64; 0] = [];
+    let stats = carve_through(image, &mut none, settings, false);
+    stats.entries_carved
 }
 
-// The carved entries into the list, and the counters of the run.
-pub(crate) fn fill_list(image: &[u8], list: &mut [u64], settings: Settings) -> MftCarvingStats
-    requires { ⌜ FillAsks settings (now image) (now list) ⌝ }
-    ensures { λ r. ⌜ FillPromise settings image list r ⌝ }
+// The counters of the pass, and the carved entries into the list where they are written. Counting is the same loop, so that a visit
+// stands in one place alone, and the compiler takes it into the loop.
+pub(crate) fn carve_through(
+    image: &[u8],
+    list: &mut [u64],
+    settings: Settings,
+    writes: bool,
+) -> MftCarvingStats
+    requires { ⌜ PassAsks settings (now image) writes (now list) ⌝ }
+    ensures { λ r. ⌜ PassPromise settings image writes list r ⌝ }
 {
     let mut stats = nothing_met(image.len());
     let mut o: usize = 0;
@@ -63,14 +61,25 @@ pub(crate) fn fill_list(image: &[u8], list: &mut [u64], settings: Settings) -> M
                 o = next;
             }
             CarveStep::Carved(entry, next) => {
-                let row = entry_row(entry);
-                put_words(list, ENTRY_WORDS * stats.entries_carved, &row);
+                put_entry(list, stats.entries_carved, entry, writes);
                 stats.candidates_examined += 1;
                 stats.entries_carved += 1;
                 o = next;
             }
         }
     }
+}
+
+// An entry's words into the list behind n others, where entries are written.
+fn put_entry(list: &mut [u64], n: usize, entry: CarvedMftEntry, writes: bool)
+    requires { ⌜ (writes ≡ true → entryStride * n + entryStride ≤ length (now list)) ⌝ }
+    ensures { λ _. ⌜ now (list .exit) ≡ entryPut writes (now (list .entry)) n entry ⌝ }
+{
+    if !writes {
+        return;
+    }
+    let row = entry_row(entry);
+    put_words(list, ENTRY_WORDS * n, &row);
 }
 
 // An entry, a word a field.

@@ -9,7 +9,7 @@ mod step;
 ghost use Prim.Native.Nat.{_≤_};
 ghost use Rattle.mft_carver.specs.Settings.{standard};
 ghost use Rattle.mft_carver.specs.Promise.{CarvePromise};
-use crate::fill::fill_list;
+use crate::fill::carve_through;
 use crate::fill::has_room;
 use base::ABOVE_DOMAIN;
 use base::DOMAIN;
@@ -95,7 +95,7 @@ fn carve(image: &[u8], list: &mut [u64], settings: Settings) -> MftCarving
         return MftCarving::Refused(ABOVE_DOMAIN);
     }
     if has_room(image, list.len() / ENTRY_WORDS, settings) {
-        MftCarving::Carved(fill_list(image, list, settings))
+        MftCarving::Carved(carve_through(image, list, settings, true))
     } else {
         MftCarving::Refused(LIST_FULL)
     }

@@ -12,14 +12,14 @@ returns c = refuses-above-domain _ _ _ (c .if1 .taken)
 has-room-requires : tie.Need-has-room-requires
 has-room-requires c κs = search needs
 
-fill-list-requires : tie.Need-fill-list-requires
-fill-list-requires c κs = record { sized = c .before .before .before .before .before .before .pre; within = c .before .before .before .if1 .left; room = leb-true _ _ (sym (c .before .before .has-room .ensures) ∙ c .before .if2 .taken) }
+carve-through-requires : tie.Need-carve-through-requires
+carve-through-requires c κs = record { sized = c .before .before .before .before .before .before .pre; within = c .before .before .before .if1 .left; room = λ _. leb-true _ _ (sym (c .before .before .has-room .ensures) ∙ c .before .if2 .taken) }
 
 same-length : tie.Need-same-length
 same-length c = search needs
 
 returns-2 : tie.Need-returns-2
-returns-2 c = carves _ _ _ (c .before .before .before .before .before .before .if1 .left) (leb-true _ _ (sym (c .before .before .before .before .before .has-room .ensures) ∙ c .before .before .before .before .if2 .taken)) (c .before .before .fill-list .ensures)
+returns-2 c = carves _ _ _ (c .before .before .before .before .before .before .if1 .left) (leb-true _ _ (sym (c .before .before .before .before .before .has-room .ensures) ∙ c .before .before .before .before .if2 .taken)) (c .before .before .carve-through .ensures)
 
 returns-3 : tie.Need-returns-3
 returns-3 c = refuses-full _ _ _ (c .before .before .if1 .left) (leb-false _ _ (sym (c .before .has-room .ensures) ∙ c .if2 .left))
@@ -27,4 +27,4 @@ returns-3 c = refuses-full _ _ _ (c .before .before .if1 .left) (leb-false _ _ (
 pub carve-spec : {M : Type 1} → statement M
 carve-spec =
     tie.close
-    (tie.spec returns has-room-requires fill-list-requires same-length returns-2 returns-3)
+    (tie.spec returns has-room-requires carve-through-requires same-length returns-2 returns-3)
