@@ -1,9 +1,10 @@
 // A batch of records: the slots of their keys, and those of the folders above them with the names there, a level at a time.
 //
-// For each record of a batch three words are kept: a key, and a link that leads to its slot. A pass goes over all records, so that what
-// it reads for one does not wait for what it reads for another. The answers are sums of a byte for each read: they decide nothing, and
-// the compiler, which does not know that, leaves no read out.
-ghost use Prim.Native.Nat.{_*_, _/_, _^_, _≤_, _<_};
+// A way leads from a record up the table: three words, a key and a link that leads to its slot. A pass goes over all ways of a batch, so that
+// what it reads for one does not wait for what it reads for another; ways side by side that come to the same key are one from there on,
+// and one that leads to no slot ends. The answers are sums of a byte for each read: they decide nothing, and the compiler, which does
+// not know that, leaves no read out.
+ghost use Prim.Native.Nat.{_+_, _*_, _/_, _^_, _≤_, _<_};
 ghost use lib.ListN.{length};
 ghost use Rattle.entry_slots.specs.Slots.{stride};
 ghost use Rattle.read_ahead.specs.Reading.{batch};
@@ -19,34 +20,37 @@ use usn_record::bytes::byte_at;
 use usn_record::fields::Reference;
 use usn_record::references::references_at;
 
-// The records of a batch, and the words kept for them.
+// The records of a batch, and the words of their ways.
 pub(crate) const BATCH: usize = 32;
 
 const WAY: usize = 3;
 
 const WAYS: usize = 96;
 
-// What a pass does for each record of a batch.
-enum Pass {
-    // Sets out with the key of its file.
-    File,
-    // Sets out with the key of its folder.
-    Folder,
-    // Reads the slot that the link leads to, and goes on to the next link where that has another key.
-    Follow,
-    // Reads the name in the slot, and sets out with the parent there.
-    Rise,
+// How many ways lead on, and a byte of what was read for one of them, or the sum of the bytes for all of them.
+struct Gone {
+    on: usize,
+    sum: usize,
+}
+
+// The key of the record at an offset of the journal: that of its folder, or of its own file.
+fn key_of(journal: &[u8], offset: usize, folder: bool) -> EntryKey {
+    let references = references_at(journal, offset);
+    if folder {
+        return reference_key(references.parent);
+    }
+    reference_key(references.file)
 }
 
 // The key that a reference is.
-fn key_of(reference: Reference) -> EntryKey {
+fn reference_key(reference: Reference) -> EntryKey {
     EntryKey {
         entry: reference.entry,
         sequence: reference.sequence as u64,
     }
 }
 
-// The key of a record of the batch.
+// The key of a way.
 fn way_key(ways: &[u64; WAYS], x: usize) -> EntryKey
     requires { ⌜ x < batch ⌝ }
 {
@@ -63,27 +67,28 @@ fn link_of(heads: &[u64], key: EntryKey) -> u64
     heads[hash_of(heads.len(), key)]
 }
 
-// Whether the record before has this key.
-fn is_last(ways: &[u64; WAYS], x: usize, key: EntryKey) -> bool
-    requires { ⌜ x < batch ⌝ }
+// Whether the last of so many ways has this key.
+fn is_last(ways: &[u64; WAYS], on: usize, key: EntryKey) -> bool
+    requires { ⌜ on ≤ batch ⌝ }
 {
-    if x == 0 {
+    if on == 0 {
         return false;
     }
-    same_key(way_key(ways, x - 1), key)
+    same_key(way_key(ways, on - 1), key)
 }
 
-// Sets out with a key: by its first link, or by none where the record before has the same key.
-fn set_out(heads: &[u64], ways: &mut [u64; WAYS], x: usize, key: EntryKey)
-    requires { ⌜ (0 < length (now heads)) × (x < batch) ⌝ }
+// Sets out with a key behind so many ways, unless the last of them has it; how many ways there are then.
+fn set_out(heads: &[u64], ways: &mut [u64; WAYS], on: usize, key: EntryKey) -> usize
+    requires { ⌜ (0 < length (now heads)) × (on < batch) ⌝ }
+    ensures { λ r. ⌜ r ≤ on + 1 ⌝ }
 {
-    let mut link: u64 = 0;
-    if !is_last(ways, x, key) {
-        link = link_of(heads, key);
+    if is_last(ways, on, key) {
+        return on;
     }
-    ways[x * WAY] = key.entry;
-    ways[x * WAY + 1] = key.sequence;
-    ways[x * WAY + 2] = link;
+    ways[on * WAY] = key.entry;
+    ways[on * WAY + 1] = key.sequence;
+    ways[on * WAY + 2] = link_of(heads, key);
+    on + 1
 }
 
 // A link that leads to a slot, which is one less; 0 where it leads to none.
@@ -120,18 +125,45 @@ fn first_of(journal: &[u8], image: &[u8], name: NamePlace) -> u8 {
     byte_at(image, name.offset as usize)
 }
 
-// Follows the link of a record; the low byte of where it then leads.
-fn follow(slots: &[u64], nexts: &[u64], ways: &mut [u64; WAYS], x: usize) -> u8
-    requires { ⌜ x < batch ⌝ }
+// Sets out from each record of a batch with the key of its folder, or of its own file; how many ways there are then.
+fn set_out_all(
+    journal: &[u8],
+    records: &[usize],
+    heads: &[u64],
+    folders: bool,
+    ways: &mut [u64; WAYS],
+) -> usize
+    requires { ⌜ (0 < length (now heads)) × (length (now records) / 2 ≤ batch) ⌝ }
+    ensures { λ r. ⌜ r ≤ batch ⌝ }
 {
-    let link = ways[x * WAY + 2];
-    let next = followed(slots, nexts, link, way_key(ways, x));
-    ways[x * WAY + 2] = next;
-    (next % 256) as u8
+    let mut on: usize = 0;
+    let mut x: usize = 0;
+    while x < records.len() / 2 {
+        let key = key_of(journal, records[x * 2], folders);
+        on = set_out(heads, ways, on, key);
+        x += 1;
+    }
+    on
 }
 
-// Rises from the slot of a record to its parent; the first byte of the name in the slot. Where there is none, nothing more is read for
-// the record.
+// Follows the links of so many ways; the sum of the low bytes of where they then lead.
+fn follow_all(slots: &[u64], nexts: &[u64], count: usize, ways: &mut [u64; WAYS]) -> usize
+    requires { ⌜ count ≤ batch ⌝ }
+    ensures { λ r. ⌜ r ≤ 8160 ⌝ }
+{
+    let mut sum: usize = 0;
+    let mut x: usize = 0;
+    while x < count {
+        let next = followed(slots, nexts, ways[x * WAY + 2], way_key(ways, x));
+        ways[x * WAY + 2] = next;
+        sum += (next % 256) as usize;
+        x += 1;
+    }
+    sum
+}
+
+// Rises from the slot of way x to its parent, behind those of the ways before it that lead on, unless it is for the last time; the first
+// byte of the name in the slot. A way that leads to no slot ends.
 fn rise(
     journal: &[u8],
     image: &[u8],
@@ -139,82 +171,58 @@ fn rise(
     heads: &[u64],
     ways: &mut [u64; WAYS],
     x: usize,
-) -> u8
-    requires { ⌜ (0 < length (now heads)) × (x < batch) ⌝ }
+    on: usize,
+    last: bool,
+) -> Gone
+    requires { ⌜ (0 < length (now heads)) × (x < batch) × (on ≤ x) ⌝ }
+    ensures { λ r. ⌜ (r .on ≤ on + 1) × (r .sum ≤ 255) ⌝ }
 {
     let n = reach(slots, ways[x * WAY + 2]);
     if n == 0 {
-        return 0;
+        return Gone { on, sum: 0 };
     }
     let info = info_at(slots, n - 1);
-    set_out(heads, ways, x, info.parent);
-    first_of(journal, image, info.name)
-}
-
-// What a pass does for one record of a batch; a byte of what it read.
-fn step(
-    pass: Pass,
-    journal: &[u8],
-    image: &[u8],
-    records: &[usize],
-    slots: &[u64],
-    heads: &[u64],
-    nexts: &[u64],
-    ways: &mut [u64; WAYS],
-    x: usize,
-) -> u8
-    requires { ⌜ (0 < length (now heads)) × (x < batch) × (x < length (now records) / 2) ⌝ }
-{
-    match pass {
-        Pass::File => {
-            let references = references_at(journal, records[x * 2]);
-            set_out(heads, ways, x, key_of(references.file));
-            0
-        }
-        Pass::Folder => {
-            let references = references_at(journal, records[x * 2]);
-            set_out(heads, ways, x, key_of(references.parent));
-            0
-        }
-        Pass::Follow => follow(slots, nexts, ways, x),
-        Pass::Rise => rise(journal, image, slots, heads, ways, x),
+    let byte = first_of(journal, image, info.name);
+    if last {
+        return Gone {
+            on,
+            sum: byte as usize,
+        };
+    }
+    let then = set_out(heads, ways, on, info.parent);
+    Gone {
+        on: then,
+        sum: byte as usize,
     }
 }
 
-// A pass over a batch of records; the sum of its bytes.
-fn go_over(
-    pass: Pass,
+// Rises so from so many ways.
+fn rise_all(
     journal: &[u8],
     image: &[u8],
-    records: &[usize],
     slots: &[u64],
     heads: &[u64],
-    nexts: &[u64],
+    count: usize,
     ways: &mut [u64; WAYS],
-) -> usize
-    requires { ⌜ (0 < length (now heads)) × (length (now records) / 2 ≤ batch) ⌝ }
-    ensures { λ r. ⌜ r ≤ 8160 ⌝ }
+    last: bool,
+) -> Gone
+    requires { ⌜ (0 < length (now heads)) × (count ≤ batch) ⌝ }
+    ensures { λ r. ⌜ (r .on ≤ batch) × (r .sum ≤ 8160) ⌝ }
 {
+    let mut on: usize = 0;
     let mut sum: usize = 0;
     let mut x: usize = 0;
-    while x < records.len() / 2 {
-        sum += step(pass, journal, image, records, slots, heads, nexts, ways, x) as usize;
+    while x < count {
+        let gone = rise(journal, image, slots, heads, ways, x, on, last);
+        on = gone.on;
+        sum += gone.sum;
         x += 1;
     }
-    sum
+    Gone { on, sum }
 }
 
-// The passes over a batch: to the slots of the records' own keys, and from their folders on two for each level.
-fn pass_at(i: usize) -> Pass {
-    match i {
-        0 => Pass::File,
-        1 => Pass::Follow,
-        2 => Pass::Folder,
-        _ => { if i % 2 == 1 { Pass::Follow } else { Pass::Rise } }
-    }
-}
-
-// Reads ahead for a batch of records by so many passes; the sum of their bytes.
+// Reads ahead for a batch of records: the slots of their own keys, and those of so many folders above them, with the names there. The
+// sum of the bytes.
 pub(crate) fn read_batch(
     journal: &[u8],
     image: &[u8],
@@ -222,26 +230,25 @@ pub(crate) fn read_batch(
     slots: &[u64],
     heads: &[u64],
     nexts: &[u64],
-    passes: usize,
+    levels: usize,
 ) -> usize
-    requires { ⌜ (0 < length (now heads)) × (length (now records) / 2 ≤ batch) × (passes ≤ 11) ⌝ }
+    requires { ⌜ (0 < length (now heads)) × (length (now records) / 2 ≤ batch) × (levels ≤ 4) ⌝ }
     ensures { λ r. ⌜ r < 2 ^ 20 ⌝ }
 {
     let mut ways = [0u64; WAYS];
-    let mut sum: usize = 0;
-    let mut i: usize = 0;
-    while i < passes {
-        sum += go_over(
-            pass_at(i),
-            journal,
-            image,
-            records,
-            slots,
-            heads,
-            nexts,
-            &mut ways,
-        );
-        i += 1;
+    let files = set_out_all(journal, records, heads, false, &mut ways);
+    let mut sum = follow_all(slots, nexts, files, &mut ways);
+    if levels == 0 {
+        return sum;
+    }
+    let mut on = set_out_all(journal, records, heads, true, &mut ways);
+    let mut level: usize = 0;
+    while level < levels {
+        level += 1;
+        sum += follow_all(slots, nexts, on, &mut ways);
+        let gone = rise_all(journal, image, slots, heads, on, &mut ways, level == levels);
+        on = gone.on;
+        sum += gone.sum;
     }
     sum
 }

@@ -17,13 +17,10 @@ use crate::batch::BATCH;
 use crate::batch::read_batch;
 use entry_slots::slots::STRIDE;
 
-// How many folders are read above each record.
-const LEVELS: usize = 4;
+// How many folders are read above each record of a walk forward, and of one backward, which needs the slots of the records' own keys alone.
+const FORWARD: usize = 4;
 
-// The passes over a batch that goes forward, and over one that goes backward, which needs the slots of the records' own keys alone.
-const FORWARD: usize = 3 + 2 * LEVELS;
-
-const BACKWARD: usize = 2;
+const BACKWARD: usize = 0;
 
 // Tables of fewer slots are not read ahead for.
 const LARGE: usize = 65536;
