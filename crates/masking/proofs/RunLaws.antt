@@ -22,7 +22,7 @@ use Rattle.rewind.specs.Written.{steppedWithText}
 use Rattle.chain.specs.Tracing.{withPlaces}
 use Rattle.chain.specs.Chain.{chainWords}
 use Rattle.entry_slots.specs.declared.NamePlace.{NamePlace}
-use Rattle.rewind_run.specs.Running.{Run, runFrom, oneMore, onward, running}
+use Rattle.run_steps.specs.Running.{Run, runFrom, oneMore, onward, running}
 use Rattle.rewind_run.specs.Promise.{RunsIndexed}
 use Rattle.rewind_run.specs.declared.RunAnswer.{RunAnswer}
 use Rattle.rewind_run.specs.Calls.{roomsOn, rooms, callRooms}

@@ -43,7 +43,7 @@ use Rattle.usn_window.specs.declared.Reading.{Reading}
 use Rattle.rewind_run.specs.Running.{runOutcome}
 use Rattle.rewind_run.specs.Calls.{callRooms}
 use Rattle.rewind_run.specs.Promise.{RunsIndexed}
-use Rattle.rewind_run.specs.declared.RewindRun.{RewindRun}
+use Rattle.run_steps.specs.declared.RewindRun.{RewindRun}
 use Rattle.rewind_run.specs.declared.RunAnswer.{RunAnswer}
 use Rattle.masking.specs.Calls.{Sources, Kept, kept, State, Call, plain, nextText, insert, insertIfAbsent, seed, start, Answer, used, begun, step, nothing, Result, resultOf, Done, results, reached}
 use Rattle.masking.specs.Calls as list

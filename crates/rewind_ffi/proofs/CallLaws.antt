@@ -11,7 +11,8 @@ use Rattle.entry_slots.specs.Slots.{slotsIn}
 use Rattle.entry_slots.specs.Index.{headsLeft, nextsLeft}
 use Rattle.rewind.specs.Starting.{Tables, firstAfter, forwardAfter}
 use Rattle.rewind.specs.declared.Rewind.{Rewind}
-use Rattle.rewind_run.specs.Running.{Run, testedRun, runTable, runOutcome}
+use Rattle.run_steps.specs.Running.{Run, runTable}
+use Rattle.rewind_run.specs.Running.{testedRun, runOutcome}
 use Rattle.rewind_run.specs.declared.RunAnswer.{RunAnswer}
 use Rattle.rewind_run.specs.Promise.{RunsIndexed}
 use Rattle.rewind_run.proofs.CallLaws.{left-refused}

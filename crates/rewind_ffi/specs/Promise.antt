@@ -15,7 +15,8 @@ use Rattle.rewind_steps.specs.StepText.{nextText}
 use Rattle.rewind.specs.Starting.{Tables, firstAfter, forwardAfter}
 use Rattle.rewind.specs.Stepping as step
 use Rattle.rewind.specs.declared.Rewind.{Rewind}
-use Rattle.rewind_run.specs.Running.{Run, runTable, wordsRun}
+use Rattle.run_steps.specs.Running.{Run, runTable}
+use Rattle.rewind_run.specs.Running.{wordsRun}
 use Rattle.rewind_ffi.specs.Rewind.{startCall, startWords, stepWords, chainStepWords, chainStepCall, pathStepWords, pathStepCall}
 use Rattle.rewind_ffi.specs.Run.{runCall, runWords}
 

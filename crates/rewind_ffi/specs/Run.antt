@@ -5,7 +5,8 @@ use lib.ListN.{length}
 use Rattle.base.specs.Outcome.{Outcome}
 use Rattle.base.specs.Words.{afterDomain}
 use Rattle.rewind.specs.declared.Rewind.{Rewind}
-use Rattle.rewind_run.specs.Running.{Run, testedRun, runAnswer}
+use Rattle.run_steps.specs.Running.{Run, runAnswer}
+use Rattle.rewind_run.specs.Running.{testedRun}
 use Rattle.volume_answers.specs.Rewind.{rowOf}
 
 -- with lent words for the forward table, for the ends of the texts and for the answer

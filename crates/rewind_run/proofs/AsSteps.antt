@@ -16,7 +16,8 @@ use Rattle.rewind_steps.specs.Taking.{Step}
 use Rattle.rewind.specs.Stepping.{wordsAfter, rewindAfter, forwardTable}
 use Rattle.rewind.specs.Written.{steppedWithText}
 use Rattle.rewind.specs.declared.Rewind.{Rewind}
-use Rattle.rewind_run.specs.Running.{Run, runFrom, oneMore, onward, running, ran, testedRun}
+use Rattle.run_steps.specs.Running.{Run, runFrom, oneMore, onward, running, ran}
+use Rattle.rewind_run.specs.Running.{testedRun}
 use Rattle.rewind_run.specs.Calls.{roomsOn, rooms, callRooms, calls, Left, leaving, callsLeave, runLeaves, gathered, gatheredCall}
 use Rattle.rewind_run.specs.Stopping.{stops}
 use Rattle.rewind_run.proofs.StopLaws.{tests-stop-none, refused-stops}

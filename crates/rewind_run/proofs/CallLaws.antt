@@ -17,9 +17,11 @@ use Rattle.rewind_records.specs.Environment.{Environment, environmentOf, rewind
 use Rattle.rewind.specs.Stepping.{forwardTable}
 use Rattle.rewind.specs.declared.Rewind.{Rewind}
 use Rattle.rewind_records.proofs.TurnLaws.{passed, tested-refused, tested-passed}
-use Rattle.rewind_run.specs.Running.{Run, testedRun, runTable}
-use Rattle.rewind_run.specs.Promise.{RunAsks, RunLeaves, runMade, runOut, RunsIndexed}
-use Rattle.rewind_run.specs.declared.RewindRun.{RewindRun}
+use Rattle.run_steps.specs.Running.{Run, runTable}
+use Rattle.run_steps.specs.Promise.{RunAsks, RunLeaves, runMade}
+use Rattle.run_steps.specs.declared.RewindRun.{RewindRun}
+use Rattle.rewind_run.specs.Running.{testedRun}
+use Rattle.rewind_run.specs.Promise.{runOut, RunsIndexed}
 use Rattle.rewind_run.specs.declared.RunAnswer.{RunAnswer}
 use Rattle.rewind_run.specs.declared.RunAnswer.the-variants.{Ran, Refused}
 

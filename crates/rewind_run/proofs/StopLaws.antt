@@ -29,9 +29,10 @@ use Rattle.rewind_steps.specs.StepText.{recordText, nextText}
 use Rattle.rewind.specs.Stepping.{stepped, stateOf, forwardTable}
 use Rattle.rewind.specs.Written.{steppedWithText}
 use Rattle.rewind.specs.declared.Rewind.{Rewind}
-use Rattle.rewind_run.specs.Running.{Run, runFrom, oneMore, onward, running, ran, testedRun, runTable}
+use Rattle.run_steps.specs.Running.{Run, runFrom, oneMore, onward, running, ran, runTable}
+use Rattle.run_steps.proofs.StepLaws.{tests, with-text-end, with-text-next, made-step}
+use Rattle.rewind_run.specs.Running.{testedRun}
 use Rattle.rewind_run.specs.Stopping.{stops, Over}
-use Rattle.rewind_run.proofs.StepLaws.{tests, with-text-end, with-text-next, made-step}
 
 -- what the tests refuse stops no run
 pub tests-stop-none : (env : Environment) (t : Table) → stops (rewindRefusal env t) ≡ false

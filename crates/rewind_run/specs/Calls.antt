@@ -9,7 +9,8 @@ use Rattle.rewind_steps.specs.Taking.{Step}
 use Rattle.rewind.specs.Stepping.{wordsAfter, rewindAfter}
 use Rattle.rewind.specs.Written.{steppedWithText}
 use Rattle.rewind.specs.declared.Rewind.{Rewind}
-use Rattle.rewind_run.specs.Running.{Run, runFrom, oneMore, onward, testedRun}
+use Rattle.run_steps.specs.Running.{Run, runFrom, oneMore, onward}
+use Rattle.rewind_run.specs.Running.{testedRun}
 use Rattle.rewind_run.specs.Stopping.{stops}
 
 -- the rooms of the calls after one, by what it comes to: none where it is refused or no record is left

@@ -15,7 +15,7 @@ use Rattle.rewind_records.specs.Turning.{next}
 use Rattle.rewind_steps.specs.Taking.{Step}
 use Rattle.rewind_steps.specs.StepText.{recordText}
 use Rattle.rewind.specs.Stepping.{stepped}
-use Rattle.rewind_run.specs.Running.{Run, runTable}
+use Rattle.run_steps.specs.Running.{Run, runTable}
 
 -- the refusals of a step that stop a run: 6 and 8
 abbrev pub stops : ℕ → Bool

@@ -5,23 +5,14 @@
 // writes the same.
 //
 // Every function here is proved. The public call has no `requires`.
-mod steps;
-
 ghost use Rattle.rewind_run.specs.Promise.{RunPromise};
-use crate::steps::run;
 use entry_slots::links::build;
 use entry_slots::links::is_enough;
 use entry_slots::slots::STRIDE;
 use rewind::Rewind;
 use rewind_records::turn::refusal;
-
-// A run of steps: how many were made, 0 or what stopped it before the next one, 6 or 8, and the rewind after the last one that was
-// made.
-pub struct RewindRun {
-    pub steps: usize,
-    pub stopped: u32,
-    pub rewind: Rewind,
-}
+use run_steps::RewindRun;
+use run_steps::run;
 
 // What a call answers: its run, or a refusal's number.
 pub enum RunAnswer {

@@ -20,9 +20,10 @@ use Rattle.rewind_steps.specs.StepText.{recordText, nextText}
 use Rattle.rewind.specs.Stepping.{stepped, forwardTable}
 use Rattle.rewind.specs.Written.{steppedWithText}
 use Rattle.rewind.specs.declared.Rewind.{Rewind}
-use Rattle.rewind_run.specs.Running.{Run, runFrom, onward as runOn, running, ran, runOutcome}
+use Rattle.run_steps.specs.Running.{Run, runFrom, onward as runOn, running, ran}
+use Rattle.run_steps.specs.declared.RewindRun.{RewindRun}
+use Rattle.rewind_run.specs.Running.{runOutcome}
 use Rattle.rewind_run.specs.Promise.{RunsIndexed}
-use Rattle.rewind_run.specs.declared.RewindRun.{RewindRun}
 use Rattle.rewind_run.specs.declared.RunAnswer.{RunAnswer}
 use Rattle.rewind_run.specs.declared.RunAnswer.the-variants.{Refused}
 use Rattle.rewind_run.proofs.AsSteps.{answered-run, refused-run, step-refused}

@@ -9,7 +9,7 @@ use Rattle.base.specs.Lent.{Lent, before, after}
 use Rattle.usn_scan.specs.Scan.{scanned}
 use Rattle.base.specs.Outcome.{Outcome, refused, answered}
 use Rattle.rewind.specs.declared.Rewind.{Rewind}
-use Rattle.rewind_run.specs.declared.RewindRun.{RewindRun}
+use Rattle.run_steps.specs.declared.RewindRun.{RewindRun}
 use Rattle.usn_lines.specs.Listing.{Standing, standing, mostPath, onward, pathOf, line, part, afterPart, listOf, begins}
 use Rattle.usn_lines.specs.declared.Begun.{Begun}
 use Rattle.usn_lines.specs.declared.Put.{Put}

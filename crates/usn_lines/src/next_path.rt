@@ -11,9 +11,9 @@ use entry_table::adding::add;
 use rewind::Rewind;
 use rewind_records::turn::Turn;
 use rewind_records::turn::next_record;
-use rewind_run::RewindRun;
 use rewind_run::RunAnswer;
 use rewind_run::rewind_run;
+use run_steps::RewindRun;
 use usn_fields::shown::show;
 use utf16::plain::put_byte;
 

@@ -3,7 +3,7 @@ use Prim.Native.Nat.{ℕ}
 use mathlib.Core.List.{List, [], _∷_, _++_}
 use Rattle.rewind_records.specs.Turning.{Next, ended, next}
 use Rattle.rewind.specs.declared.Rewind.{Rewind}
-use Rattle.rewind_run.specs.declared.RewindRun.{RewindRun}
+use Rattle.run_steps.specs.declared.RewindRun.{RewindRun}
 
 -- a state
 abbrev pub rewindWords : Rewind → List ℕ

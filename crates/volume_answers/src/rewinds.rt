@@ -20,8 +20,8 @@ use rewind::NextPath;
 use rewind::PathStep;
 use rewind::Rewind;
 use rewind::Started;
-use rewind_run::RewindRun;
 use rewind_run::RunAnswer;
+use run_steps::RewindRun;
 
 // The words of a start's answer, those of the longest answer of a step, a record's, without text and with it, and those of a run's.
 pub const START_WORDS: usize = 2;

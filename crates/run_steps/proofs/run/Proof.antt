@@ -4,10 +4,10 @@ use mathlib.Core.Path.{_≡_, refl, sym, _∙_}
 use native.Mathlib.Omega.{arith}
 use lib.ListN.{length}
 use Rattle.rewind.specs.Stepping.{stateOf}
-use Rattle.rewind_run.proofs.RunLaws.{Going, going-start, going-asks, going-heads, going-nexts, going-room, going-all, going-end, going-refused, going-made, going-near}
+use Rattle.run_steps.proofs.RunLaws.{Going, going-start, going-asks, going-heads, going-nexts, going-room, going-all, going-end, going-refused, going-made, going-near}
 use borrow.Author.Needs.{needs}
-use Rattle.rewind_run.proofs.steps.run.Statement.{statement}
-use Rattle.rewind_run.proofs.steps.run.Tie as tie
+use Rattle.run_steps.proofs.run.Statement.{statement}
+use Rattle.run_steps.proofs.run.Tie as tie
 
 abbrev Inv-loop : tie.InvT-loop
 Inv-loop journal image records forward₀ heads₀ nexts₀ ends₀ text₀ used₀ position₀ at₀ i₀ read₀ way₀ forward heads nexts ends text used position at i read way =

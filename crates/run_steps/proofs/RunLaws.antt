@@ -22,14 +22,14 @@ use Rattle.rewind.specs.Stepping.{stateOf}
 use Rattle.rewind_steps.specs.StepText.{recordText}
 use Rattle.rewind.specs.Written.{steppedWithText}
 use Rattle.rewind.specs.declared.Rewind.{Rewind}
-use Rattle.rewind_run.specs.declared.RewindRun.{RewindRun}
-use Rattle.rewind_run.specs.Running.{Run, runFrom, onward, running, ran}
+use Rattle.run_steps.specs.declared.RewindRun.{RewindRun}
+use Rattle.run_steps.specs.Running.{Run, runFrom, onward, running, ran}
 use Rattle.rewind_steps.specs.Making.{madeOf}
 use Rattle.rewind_steps.specs.Promise.{StepLeaves}
-use Rattle.rewind_run.specs.Promise.{RunAsks, RunLeaves}
+use Rattle.run_steps.specs.Promise.{RunAsks, RunLeaves}
 use Rattle.rewind_steps.specs.declared.Made.{Made}
 use Rattle.rewind_steps.specs.declared.Made.the-variants.{To, End, Refused}
-use Rattle.rewind_run.proofs.StepLaws.{MadeStep, made-step}
+use Rattle.run_steps.proofs.StepLaws.{MadeStep, made-step}
 
 -- what is written behind what is written
 pub written-behind : (l vs more : List ℕ) → length vs + length more ≤ length l → sets (overwrite l vs) (length vs) more ≡ overwrite l (vs ++ more)

@@ -1,8 +1,8 @@
 -- By whether a record is left.
-use Rattle.rewind_run.proofs.StepLaws.{tests, step-end, own-inside, step-next}
+use Rattle.run_steps.proofs.StepLaws.{tests, step-end, own-inside, step-next}
 use borrow.Author.Needs.{needs}
-use Rattle.rewind_run.proofs.steps.run_step.Statement.{statement}
-use Rattle.rewind_run.proofs.steps.run_step.Tie as tie
+use Rattle.run_steps.proofs.run_step.Statement.{statement}
+use Rattle.run_steps.proofs.run_step.Tie as tie
 
 returns : tie.Need-returns
 returns c =

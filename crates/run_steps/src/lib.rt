@@ -1,12 +1,11 @@
 // The steps of a run: each puts the next record into the forward table and its path behind those of the steps before it.
 //
-// The functions here ask for tests that have passed and for an index that is the table's, and keep both. Heads of length 0 are no
-// index.
+// Every function here is proved. They are helpers of our own crates: they ask for tests that have passed and for an index that is
+// the table's, and keep both. Heads of length 0 are no index.
 ghost use Prim.Native.Nat.{_≤_, _<_};
 ghost use lib.ListN.{length};
 ghost use Rattle.chain.specs.Settings.{levels};
-ghost use Rattle.rewind_run.specs.Promise.{RunStepPromise, RunAsks, StepsPromise};
-use crate::RewindRun;
+ghost use Rattle.run_steps.specs.Promise.{RunStepPromise, RunAsks, StepsPromise};
 use additions::entries::entry_at;
 use chain::way::WAY_WORDS;
 use read_ahead::ahead_forward;
@@ -14,6 +13,14 @@ use rewind::Rewind;
 use rewind_steps::Made;
 use rewind_steps::Stand;
 use rewind_steps::make_step;
+
+// A run of steps: how many were made, 0 or what stopped it before the next one, 6 or 8, and the rewind after the last one that was
+// made.
+pub struct RewindRun {
+    pub steps: usize,
+    pub stopped: u32,
+    pub rewind: Rewind,
+}
 
 // Where a run stands: its rewind, and where the text so far ends.
 pub(crate) struct Standing {
@@ -61,7 +68,7 @@ fn run_step(
 }
 
 // As many steps as there are words for the ends of their texts, where the tests have passed.
-pub(crate) fn run(
+pub fn run(
     journal: &[u8],
     image: &[u8],
     records: &[usize],
