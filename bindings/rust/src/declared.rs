@@ -94,24 +94,6 @@ extern "C" {
         entries_len: usize,
     ) -> Seeded;
 
-    pub fn mft_carve_entries(
-        image: *const u8,
-        image_len: usize,
-        list: *mut u64,
-        list_len: usize,
-        out: *mut u64,
-        out_len: usize,
-    ) -> u32;
-
-    pub fn utf16_decode(
-        bytes: *const u8,
-        bytes_len: usize,
-        text: *mut u8,
-        text_len: usize,
-        out: *mut u64,
-        out_len: usize,
-    ) -> u32;
-
     pub fn table_insert(
         journal: *const u8,
         journal_len: usize,
@@ -178,6 +160,24 @@ extern "C" {
         heads_len: usize,
         nexts: *mut u64,
         nexts_len: usize,
+        out: *mut u64,
+        out_len: usize,
+    ) -> u32;
+
+    pub fn mft_carve_entries(
+        image: *const u8,
+        image_len: usize,
+        list: *mut u64,
+        list_len: usize,
+        out: *mut u64,
+        out_len: usize,
+    ) -> u32;
+
+    pub fn utf16_decode(
+        bytes: *const u8,
+        bytes_len: usize,
+        text: *mut u8,
+        text_len: usize,
         out: *mut u64,
         out_len: usize,
     ) -> u32;

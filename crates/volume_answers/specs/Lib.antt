@@ -1,3 +1,4 @@
 pub mod Domain
+pub mod Key
 pub mod Path
 pub mod Rewind

@@ -1,8 +1,8 @@
--- Carving, decoding and paths are refused for the domain where what they are to read is above it, and storing never is. Assumes nothing.
-use Prim.Native.Nat.{ℕ, _+_, _/_}
+-- Carving, decoding and paths are refused for the domain where what they are to read is above it. Assumes nothing.
+use Prim.Native.Nat.{ℕ, _/_}
 use mathlib.Core.Path.{refl}
 use mathlib.Core.List.{List}
-use mathlib.Core.Bool.{false, not, _||_}
+use mathlib.Core.Bool.{not}
 use lib.ListN.{length}
 use lib.Dec.{ltb}
 use Rattle.base.specs.Refusals.{domain}
@@ -10,12 +10,11 @@ use Rattle.base.proofs.WordLaws.{Domain, domain-answered, domain-refused, domai
 use Rattle.mft_carver.specs.declared.Settings.{Settings}
 use Rattle.mft_carver.specs.Carve.{entryStride, entriesIn, carving}
 use Rattle.utf16.specs.Decoding.{textOf, decoding as decodingName}
-use Rattle.entry_slots.specs.Names.{Lengths, lengthsOf, inside, allInside}
+use Rattle.entry_slots.specs.Names.{lengthsOf, inside, allInside}
 use Rattle.entry_slots.specs.Slots.{slotsIn, namesIn}
-use Rattle.entry_slots.specs.Table.{Table, Addition, known}
+use Rattle.entry_slots.specs.Table.{Table}
 use Rattle.entry_slots.specs.declared.EntryKey.{EntryKey}
 use Rattle.entry_slots.specs.declared.NamePlace.{NamePlace}
-use Rattle.additions.specs.Storing.{newKeys, keysOf, namesOf, adding, storing}
 use Rattle.chain.specs.Tracing.{tracing}
 use Rattle.path_text.specs.Decoding.{placing, placeDecoding}
 use Rattle.path_text.specs.Text.{placeText, pathText}
@@ -31,13 +30,6 @@ carving-domain st s words =
 pub name-domain : (s : List ℕ) (room : ℕ) → Domain (ltb domain (length s)) (decodingName s room)
 unfolding decodingName
 name-domain s room = domain-first (ltb domain (length s)) (domain-choice (ltb room (length (textOf s))) (domain-refused 8 refl) (domain-answered _))
-
-pub storing-domain : (ls : Lengths) (t : Table) (xs : List Addition) → Domain false (storing ls t xs)
-unfolding storing adding
-storing-domain ls t xs =
-    domain-choice (ltb (slotsIn (t .words)) (t .used)) (domain-refused 9 refl)
-    (domain-choice (not (allInside ls (namesOf xs))) (domain-refused 7 refl)
-    (domain-choice (ltb (slotsIn (t .words)) (t .used + newKeys (known t) (keysOf xs))) (domain-refused 6 refl) (domain-answered _)))
 
 -- over a journal and an image
 module _ (journal image : List ℕ) where

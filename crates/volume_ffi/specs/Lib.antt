@@ -1,5 +1,4 @@
 pub mod Image
 pub mod Names
-pub mod Table
 pub mod Path
 pub mod Promise

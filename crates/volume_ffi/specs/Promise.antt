@@ -3,17 +3,11 @@
 use Prim.Native.Nat.{ℕ}
 use mathlib.Core.Path.{_≡_}
 use mathlib.Core.List.{List}
-use mathlib.Core.Bool.{Bool}
 use Rattle.base.specs.Lent.{Lent, before, after}
 use Rattle.base.specs.Lists.{listAfter}
 use Rattle.base.specs.Outcome.{Outcome}
 use Rattle.base.specs.Words.{number, countWords, ListPromise}
 use Rattle.mft_carver.specs.Carve.{statsWords}
-use Rattle.entry_slots.specs.Slots.{slotsIn}
-use Rattle.entry_slots.specs.Table.{Table}
-use Rattle.entry_slots.specs.Index.{headsLeft, nextsLeft}
-use Rattle.additions.specs.Storing.{wordsAfter}
-use Rattle.entry_slots.specs.declared.EntryInfo.{EntryInfo}
 use Rattle.entry_slots.specs.declared.EntryKey.{EntryKey}
 use Rattle.entry_slots.specs.declared.NamePlace.{NamePlace}
 use Rattle.chain.specs.Chain.{Chain, resolved}
@@ -24,7 +18,6 @@ use Rattle.volume_answers.specs.Path.{resolvedWords, writtenWords}
 use Rattle.volume_ffi.specs.Image.{carveCall, carvedWords}
 use Rattle.volume_ffi.specs.Names.{decodeCall, decodedBytes}
 use Rattle.volume_ffi.specs.Path.{resolveCall, chainCall, placeCall}
-use Rattle.volume_ffi.specs.Table.{insertCall, seedCall, usedWords}
 
 -- carving an image: the list is that of the entries, and the words are the counters
 abbrev pub CarveCallPromise : Lent → Lent → Lent → ℕ → Type 0
@@ -39,31 +32,6 @@ abbrev pub PlaceCallPromise : Lent → Lent → NamePlace → Lent → Lent → 
 PlaceCallPromise journal image place text out r =
     let o = placeCall (before journal) (before image) place (before text) (before out) in
     ListPromise (placeText (before journal) (before image)) (λ p. countWords (placeLength (before journal) (before image) p)) o text out r
-
--- storing: its number, the words of the table, and the word of the used slots
-pub record Stores (o : Outcome Table) (words out : List ℕ) (r : ℕ) (words′ out′ : List ℕ) : Type 0 where
-  pub answer : r ≡ number o
-  pub table : words′ ≡ wordsAfter o words
-  pub row : out′ ≡ listAfter usedWords o out
-
-abbrev pub StorePromise : Lent → Lent → Lent → ℕ → EntryKey → EntryInfo → Bool → Lent → ℕ → Type 0
-StorePromise journal image slots used key info replace out r =
-    Stores (insertCall (before journal) (before image) (before slots) used key info replace (before out)) (before slots) (before out) r (after slots) (after out)
-
-abbrev pub SeedCallPromise : Lent → Lent → Lent → ℕ → Lent → Lent → ℕ → Type 0
-SeedCallPromise journal image slots used entries out r =
-    Stores (seedCall (before journal) (before image) (before slots) used (before entries) (before out)) (before slots) (before out) r (after slots) (after out)
-
--- seeding: what the call with no index promises, and the words of the index
-pub record Seeds (o : Outcome Table) (words heads nexts out : List ℕ) (r : ℕ) (words′ heads′ nexts′ out′ : List ℕ) : Type 0 where
-  pub store : Stores o words out r words′ out′
-  pub heads-are : heads′ ≡ headsLeft (slotsIn words) o heads nexts
-  pub nexts-are : nexts′ ≡ nextsLeft (slotsIn words) o heads nexts
-
-abbrev pub SeedIndexedCallPromise : Lent → Lent → Lent → ℕ → Lent → Lent → Lent → Lent → ℕ → Type 0
-SeedIndexedCallPromise journal image slots used entries heads nexts out r =
-    let o = seedCall (before journal) (before image) (before slots) used (before entries) (before out) in
-    Seeds o (before slots) (before heads) (before nexts) (before out) r (after slots) (after heads) (after nexts) (after out)
 
 -- a chain: its number, the list of its places, and the words of its answer
 pub record Traces (words : Chain → List ℕ) (o : Outcome Chain) (list out : List ℕ) (r : ℕ) (list′ out′ : List ℕ) : Type 0 where

@@ -11,11 +11,9 @@ use Rattle.additions.specs.Storing.{inserting}
 use Rattle.additions.specs.Carved.{seeding}
 use Rattle.entry_slots.specs.declared.EntryKey.{EntryKey}
 use Rattle.entry_slots.specs.declared.EntryInfo.{EntryInfo}
+use Rattle.volume_answers.specs.Key.{keyOf}
 
--- a key, and what is known of it, from their numbers
-abbrev pub keyOf : ℕ → ℕ → EntryKey
-keyOf entry sequence = record { entry = entry; sequence = sequence }
-
+-- what is known of a key, from its numbers
 abbrev pub infoOf : ℕ → ℕ → ℕ → ℕ → ℕ → EntryInfo
 infoOf parent sequence source offset length =
     record { parent = keyOf parent sequence; name = record { source = source; offset = offset; length = length } }

@@ -1,7 +1,7 @@
 -- The fields are the numbers in their order.
 use borrow.Author.Needs.{needs}
-use Rattle.volume_ffi.proofs.entry_info.Statement.{statement}
-use Rattle.volume_ffi.proofs.entry_info.Tie as tie
+use Rattle.table_ffi.proofs.entry_info.Statement.{statement}
+use Rattle.table_ffi.proofs.entry_info.Tie as tie
 
 returns : tie.Need-returns
 returns c = search needs

@@ -1,9 +1,9 @@
 -- Too few words are refused first; otherwise seeding's equations say what goes out.
 use borrow.Author.Needs.{needs}
-use Rattle.volume_ffi.proofs.DomainLaws.{storing-domain}
-use Rattle.volume_ffi.proofs.CallLaws.{seeds-short, seeds-answered}
-use Rattle.volume_ffi.proofs.table_seed_indexed.Statement.{statement}
-use Rattle.volume_ffi.proofs.table_seed_indexed.Tie as tie
+use Rattle.table_ffi.proofs.DomainLaws.{storing-domain}
+use Rattle.table_ffi.proofs.CallLaws.{seeds-short, seeds-answered}
+use Rattle.table_ffi.proofs.table_seed_indexed.Statement.{statement}
+use Rattle.table_ffi.proofs.table_seed_indexed.Tie as tie
 
 returns : tie.Need-returns
 returns c = seeds-short _ _ _ _ _ (storing-domain _ _ _) (c .if1 .taken)
