@@ -17,7 +17,7 @@ use Rattle.rewind_records.specs.Environment.{environmentOf, rewindRefusal}
 use Rattle.rewind_records.specs.Turning.{Next, ended, next}
 use Rattle.rewind_steps.specs.Taking.{Step}
 use Rattle.rewind_steps.specs.StepText.{recordText, nextText}
-use Rattle.rewind.specs.Stepping.{stepped, forwardTable}
+use Rattle.rewind.specs.Stepping.{stepped, forwardTable, rewindAfter, wordsAfter}
 use Rattle.rewind.specs.Written.{steppedWithText}
 use Rattle.rewind.specs.declared.Rewind.{Rewind}
 use Rattle.run_steps.specs.Running.{Run, runFrom, onward as runOn, running, ran}
@@ -29,7 +29,9 @@ use Rattle.rewind_run.specs.declared.RunAnswer.the-variants.{Refused}
 use Rattle.rewind_run.proofs.AsSteps.{answered-run, refused-run, step-refused}
 use Rattle.usn_fields.specs.Line.{questionMark, shownByte, shownTo}
 use Rattle.usn_lines.specs.Listing.{Standing, standing, shownPath, onward, pathOf}
-use Rattle.usn_lines.specs.Promise.{Puts, Passes, runOr}
+use Rattle.usn_lines.specs.Promise.{Puts, Passes, StepsWithText, runOr, stepsMade, textOfStep}
+use Rattle.usn_lines.specs.declared.next_path.TextStep.{TextStep}
+use Rattle.usn_lines.specs.declared.Put.{Put}
 use Rattle.usn_fields.proofs.ShownLaws.{shown-front, length-shown}
 
 -- an answer with text is an answer without, whose text has room
@@ -59,18 +61,6 @@ module _ (journal records words : List ℕ) (r : Rewind) where
       by (refused n) = refl
       by (answered ended) = refl
       by (answered (next x)) = refl
-
-  -- no step is made: nothing is told, and nothing written
-  none-made : (o : Outcome (Next Step)) → length (one o .ends) ≡ 0 → (one o .words ≡ words) × ((one o .text ≡ []) × (shownPath journal o ≡ questionMark ∷ []))
-  none-made (refused n) z = (refl, (refl, refl))
-  none-made (answered ended) z = (refl, (refl, refl))
-  none-made (answered (next x)) z = absurd (omega (arith, z))
-
-  -- one is made
-  one-made : (o : Outcome (Next Step)) → (length (one o .ends) ≡ 0 → ⊥) → (C : Type 0) → ((x : Step) → o ≡ answered (next x) → C) → C
-  one-made (refused n) h C f = absurd (h refl)
-  one-made (answered ended) h C f = absurd (h refl)
-  one-made (answered (next x)) h C f = f x refl
 
   abbrev s : Standing
   s = standing words r
@@ -115,85 +105,112 @@ module _ (journal records words : List ℕ) (r : Rewind) where
             part-is = rw o (rw q at (p .text-is));
           }
 
-  module _ (text : List ℕ) (h : 65536 ≤ length text) {heads nexts : List ℕ} {y : RunAnswer} {a : RewindRun} {words′ heads′ nexts′ ends′ part′ : List ℕ}
-      (c : RunsIndexed journal [] records words r heads nexts (0 ∷ []) (take 65536 text) y words′ heads′ nexts′ ends′ part′) (m : a ≡ runOr r (runOutcome y)) where
-    abbrev out : Run
-    out = one (steppedWithText journal [] records words r 65536)
+  -- what the function that makes it says of it
+  pub tells : (part : List ℕ) {heads nexts : List ℕ} {y : RunAnswer} {a : RewindRun} {words′ heads′ nexts′ ends′ part′ : List ℕ}
+      → RunsIndexed journal [] records words r heads nexts (0 ∷ []) part y words′ heads′ nexts′ ends′ part′ → a ≡ runOr r (runOutcome y)
+      → StepsWithText journal words r part (steppedWithText journal [] records words r (length part)) (record { steps = a .steps; end = getD ends′ 0 0; rewind = a .rewind }) words′ part′
+  tells part {heads} {nexts} {y} {a} {words′} {heads′} {nexts′} {ends′} {part′} c m =
+      let p = one-ran part heads nexts c m in
+      by (steppedWithText journal [] records words r (length part)) (p .steps-are) (p .state-is) (p .words-are) (p .ends-are) (p .part-is)
+    where
+      by : (o : Outcome (Next Step)) → a .steps ≡ length (one o .ends) → a .rewind ≡ one o .rewind → words′ ≡ one o .words → ends′ ≡ overwrite (0 ∷ []) (one o .ends)
+          → part′ ≡ overwrite part (one o .text) → StepsWithText journal words r part o (record { steps = a .steps; end = getD ends′ 0 0; rewind = a .rewind }) words′ part′
+      by (refused n) e f g h k = record { steps-are = e; end-is = ap (λ (l : List ℕ). getD l 0 0) h; state = f; forward = g; written = k }
+      by (answered ended) e f g h k = record { steps-are = e; end-is = ap (λ (l : List ℕ). getD l 0 0) h; state = f; forward = g; written = k }
+      by (answered (next x)) e f g h k = record { steps-are = e; end-is = ap (λ (l : List ℕ). getD l 0 0) h; state = f; forward = g; written = k }
 
-    p : One 65536 (take 65536 text) a words′ ends′ part′
-    p = rw (length-take-le 65536 text h) at (one-ran (take 65536 text) heads nexts c m)
+  -- no step is made: nothing is told, and nothing written
+  none-made : (o : Outcome (Next Step)) → stepsMade o ≡ 0 → (wordsAfter o words ≡ words) × ((textOfStep journal o ≡ []) × (shownPath journal o ≡ questionMark ∷ []))
+  none-made (refused n) z = (refl, (refl, refl))
+  none-made (answered ended) z = (refl, (refl, refl))
+  none-made (answered (next x)) z = absurd (omega (arith, z))
+
+  -- one is made
+  one-made : (o : Outcome (Next Step)) → (stepsMade o ≡ 0 → ⊥) → (C : Type 0) → ((x : Step) → o ≡ answered (next x) → C) → C
+  one-made (refused n) h C f = absurd (h refl)
+  one-made (answered ended) h C f = absurd (h refl)
+  one-made (answered (next x)) h C f = f x refl
+
+  module _ (text : List ℕ) (most : ℕ) (h : (1 ≤ most) × (most ≤ length text)) {a : TextStep} {words′ part′ : List ℕ}
+      (c : StepsWithText journal words r (take most text) (steppedWithText journal [] records words r (length (take most text))) a words′ part′) where
+    abbrev out : Outcome (Next Step)
+    out = steppedWithText journal [] records words r most
+
+    p : StepsWithText journal words r (take most text) out a words′ part′
+    p = rw (length-take-le most text (h .1)) at c
 
     module _ (z : a .steps ≡ 0) where
-      none : (out .words ≡ words) × ((out .text ≡ []) × (shownPath journal (steppedWithText journal [] records words r 65536) ≡ questionMark ∷ []))
-      none = none-made (steppedWithText journal [] records words r 65536) (sym (p .steps-are) ∙ z)
+      none : (wordsAfter out words ≡ words) × ((textOfStep journal out ≡ []) × (shownPath journal out ≡ questionMark ∷ []))
+      none = none-made out (sym (p .steps-are) ∙ z)
 
-      none-part : part′ ≡ take 65536 text
-      none-part = p .part-is ∙ ap (overwrite (take 65536 text)) (none .1 .0)
+      none-part : part′ ≡ take most text
+      none-part = p .written ∙ ap (overwrite (take most text)) (none .1 .0)
 
-      none-text : part′ ++ drop 65536 text ≡ text
-      none-text = ap (λ (l : List ℕ). l ++ drop 65536 text) none-part ∙ take-append-drop 65536 text
+      none-text : part′ ++ drop most text ≡ text
+      none-text = ap (λ (l : List ℕ). l ++ drop most text) none-part ∙ take-append-drop most text
 
       none-words : words′ ≡ words
-      none-words = p .words-are ∙ none .0
+      none-words = p .forward ∙ none .0
 
       -- a question mark, and the record is passed
-      pub path-none : {e : ℕ} {v : List ℕ} {q : Rewind} {w : List ℕ} → (e ≡ 0 + 1) × (v ≡ sets (part′ ++ drop 65536 text) 0 (questionMark ∷ []))
+      pub path-none : {e : ℕ} {v : List ℕ} {q : Rewind} {w : List ℕ} → (e ≡ 0 + 1) × (v ≡ sets (part′ ++ drop most text) 0 (questionMark ∷ []))
           → Passes (onward journal records (standing words′ r)) q w
-          → Puts text (pathOf journal records s) 65536 (onward journal records s) (record { end = e; rewind = q }) w v
-      unfolding pathOf
+          → Puts text (shownPath journal out) most (onward journal records s) (record { end = e; rewind = q }) w v
       path-none {e} {v} {q} {w} b g =
           let d : Passes (onward journal records s) q w = rw none-words at g in
           let shown = none .1 .1 in
           record {
             end-is = b .0 ∙ ap length (sym shown);
             written = b .1 ∙ ap (λ (l : List ℕ). sets l 0 (questionMark ∷ [])) none-text ∙ ap (sets text 0) (sym shown);
-            fits = omega (arith, b .0);
+            fits = omega (arith, b .0, h .0);
             state = d .state;
             forward = d .forward;
           }
 
     module _ (z : a .steps ≡ 0 → ⊥) where
-      some : (C : Type 0) → ((x : Step) → steppedWithText journal [] records words r 65536 ≡ answered (next x) → C) → C
-      some = one-made (steppedWithText journal [] records words r 65536) (λ f. z (p .steps-are ∙ f))
+      some : (C : Type 0) → ((x : Step) → out ≡ answered (next x) → C) → C
+      some = one-made out (λ f. z (p .steps-are ∙ f))
 
       -- what the run leaves, by the step that it made
-      module _ (x : Step) (f : steppedWithText journal [] records words r 65536 ≡ answered (next x)) where
-        abbrev told-text : List ℕ
-        told-text = recordText journal [] x
+      module _ (x : Step) (f : out ≡ answered (next x)) where
+        abbrev its-text : List ℕ
+        its-text = recordText journal [] x
 
-        step : (stepped journal [] records words r ≡ answered (next x)) × (length told-text ≤ 65536)
-        step = text-step journal 65536 (stepped journal [] records words r) x f
+        step : (stepped journal [] records words r ≡ answered (next x)) × (length its-text ≤ most)
+        step = text-step journal most (stepped journal [] records words r) x f
 
-        out-is : out ≡ one (answered (next x))
-        out-is = ap one f
+        end-is : a .end ≡ length its-text
+        end-is = p .end-is ∙ ap (λ (o : Outcome (Next Step)). length (textOfStep journal o)) f
 
-        end-is : getD ends′ 0 0 ≡ length told-text
-        end-is = ap (λ (l : List ℕ). getD l 0 0) (p .ends-are ∙ ap (λ (q : Run). overwrite (0 ∷ []) (q .ends)) out-is)
-
-        part-is : part′ ≡ overwrite (take 65536 text) told-text
-        part-is = p .part-is ∙ ap (λ (q : Run). overwrite (take 65536 text) (q .text)) out-is
+        part-is : part′ ≡ overwrite (take most text) its-text
+        part-is = p .written ∙ ap (λ (o : Outcome (Next Step)). overwrite (take most text) (textOfStep journal o)) f
 
         onward-is : onward journal records s ≡ standing (x .table .words) (record { used = x .table .used; position = r .position + 1 })
         unfolding onward
         onward-is = rw (step .0)
 
-        whole : {v : List ℕ} → v ≡ shownTo (getD ends′ 0 0) (part′ ++ drop 65536 text)
-            → Puts text (pathOf journal records s) 65536 (onward journal records s) (record { end = getD ends′ 0 0; rewind = a .rewind }) words′ v
-        unfolding pathOf
+        whole : {v : List ℕ} → v ≡ shownTo (a .end) (part′ ++ drop most text)
+            → Puts text (shownPath journal out) most (onward journal records s) (record { end = a .end; rewind = a .rewind }) words′ v
         whole {v} e =
-            let shown : shownPath journal (steppedWithText journal [] records words r 65536) ≡ map shownByte told-text = rw f in
-            let sized : length (map shownByte told-text) ≡ length told-text = length-shown told-text in
+            let shown : shownPath journal out ≡ map shownByte its-text = rw f in
+            let sized : length (map shownByte its-text) ≡ length its-text = length-shown its-text in
             record {
               end-is = end-is ∙ sym sized ∙ ap length (sym shown);
-              written = e ∙ rw (end-is, part-is) (shown-front 65536 text told-text (step .1) h) ∙ ap (sets text 0) (sym shown);
+              written = e ∙ rw (end-is, part-is) (shown-front most text its-text (step .1) (h .1)) ∙ ap (sets text 0) (sym shown);
               fits = omega (arith, end-is, step .1);
-              state = p .state-is ∙ ap (λ (q : Run). q .rewind) out-is ∙ ap (λ (q : Standing). q .rewind) (sym onward-is);
-              forward = p .words-are ∙ ap (λ (q : Run). q .words) out-is ∙ ap (λ (q : Standing). q .words) (sym onward-is);
+              state = p .state ∙ ap (λ (o : Outcome (Next Step)). rewindAfter o r) f ∙ ap (λ (q : Standing). q .rewind) (sym onward-is);
+              forward = p .forward ∙ ap (λ (o : Outcome (Next Step)). wordsAfter o words) f ∙ ap (λ (q : Standing). q .words) (sym onward-is);
             }
 
-      pub path-end : getD ends′ 0 0 ≤ 65536
-      path-end = some (getD ends′ 0 0 ≤ 65536) (λ x f. omega (arith, end-is x f, step x f .1))
+      pub path-end : a .end ≤ most
+      path-end = some (a .end ≤ most) (λ x f. omega (arith, end-is x f, step x f .1))
 
-      pub path-some : {v : List ℕ} → v ≡ shownTo (getD ends′ 0 0) (part′ ++ drop 65536 text)
-          → Puts text (pathOf journal records s) 65536 (onward journal records s) (record { end = getD ends′ 0 0; rewind = a .rewind }) words′ v
+      pub path-some : {v : List ℕ} → v ≡ shownTo (a .end) (part′ ++ drop most text)
+          → Puts text (shownPath journal out) most (onward journal records s) (record { end = a .end; rewind = a .rewind }) words′ v
       path-some {v} e = some _ (λ x f. whole x f e)
+
+  -- in as many bytes as a path may take
+  pub path-put : {text words′ text′ : List ℕ} {q : Put} → Puts text (shownPath journal (steppedWithText journal [] records words r 65536)) 65536 (onward journal records s) q words′ text′
+      → Puts text (pathOf journal records s) 65536 (onward journal records s) q words′ text′
+  unfolding pathOf
+  path-put c = c

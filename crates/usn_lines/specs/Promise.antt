@@ -2,17 +2,24 @@
 -- takes the call's parameters.
 use Prim.Native.Nat.{ℕ, _*_, _≤_}
 use mathlib.Core.Path.{_≡_}
-use mathlib.Core.List.{List}
+use mathlib.Core.List.{List, []}
 use lib.ListN.{length, take}
 use lib.Seq.{sets}
 use Rattle.base.specs.Lent.{Lent, before, after}
+use Rattle.base.specs.Lists.{overwrite}
 use Rattle.usn_scan.specs.Scan.{scanned}
 use Rattle.base.specs.Outcome.{Outcome, refused, answered}
+use Rattle.rewind_records.specs.Turning.{Next, ended, next}
+use Rattle.rewind_steps.specs.Taking.{Step}
+use Rattle.rewind_steps.specs.StepText.{recordText}
+use Rattle.rewind.specs.Stepping.{rewindAfter, wordsAfter}
+use Rattle.rewind.specs.Written.{steppedWithText}
 use Rattle.rewind.specs.declared.Rewind.{Rewind}
 use Rattle.run_steps.specs.declared.RewindRun.{RewindRun}
-use Rattle.usn_lines.specs.Listing.{Standing, standing, mostPath, onward, pathOf, line, part, afterPart, listOf, begins}
+use Rattle.usn_lines.specs.Listing.{Standing, standing, mostPath, shownPath, onward, pathOf, line, part, afterPart, listOf, begins}
 use Rattle.usn_lines.specs.declared.Begun.{Begun}
 use Rattle.usn_lines.specs.declared.Put.{Put}
+use Rattle.usn_lines.specs.declared.next_path.TextStep.{TextStep}
 
 -- so many bytes are enough for any part
 abbrev pub mostPart : ℕ
@@ -39,6 +46,37 @@ PassPromise journal records rewind forward r =
 abbrev pub runOr : Rewind → Outcome RewindRun → RewindRun
 runOr r (refused n) = record { steps = 0; stopped = 0; rewind = r }
 runOr r (answered x) = x
+
+-- what a step with text comes to: how many are made, and the text of its path
+abbrev pub stepsMade : Outcome (Next Step) → ℕ
+stepsMade (refused n) = 0
+stepsMade (answered ended) = 0
+stepsMade (answered (next x)) = 1
+
+abbrev pub textOfStep : List ℕ → Outcome (Next Step) → List ℕ
+textOfStep journal (refused n) = []
+textOfStep journal (answered ended) = []
+textOfStep journal (answered (next x)) = recordText journal [] x
+
+-- the step, with its text at the front of a lent one
+pub record StepsWithText (journal words : List ℕ) (q : Rewind) (text : List ℕ) (o : Outcome (Next Step)) (r : TextStep) (words′ text′ : List ℕ) : Type 0 where
+  pub steps-are : r .steps ≡ stepsMade o
+  pub end-is : r .end ≡ length (textOfStep journal o)
+  pub state : r .rewind ≡ rewindAfter o q
+  pub forward : words′ ≡ wordsAfter o words
+  pub written : text′ ≡ overwrite text (textOfStep journal o)
+
+abbrev pub TextStepPromise : Lent → Lent → Rewind → Lent → Lent → TextStep → Type 0
+TextStepPromise journal records rewind forward text r =
+    let o = steppedWithText (before journal) [] (before records) (before forward) rewind (length (before text)) in
+    StepsWithText (before journal) (before forward) rewind (before text) o r (after forward) (after text)
+
+-- the next record's path, in at most so many bytes
+abbrev pub WithinPromise : Lent → Lent → Rewind → Lent → Lent → ℕ → Put → Type 0
+WithinPromise journal records rewind forward text most r =
+    let o = steppedWithText (before journal) [] (before records) (before forward) rewind most in
+    let s = onward (before journal) (before records) (standing (before forward) rewind) in
+    Puts (before text) (shownPath (before journal) o) most s r (after forward) (after text)
 
 -- the next record's path
 abbrev pub PathPromise : Lent → Lent → Rewind → Lent → Lent → Put → Type 0

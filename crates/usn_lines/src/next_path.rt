@@ -3,7 +3,7 @@ ghost use Prim.Native.Nat.{_≤_};
 ghost use lib.ListN.{length};
 ghost use mathlib.Core.Path.{_≡_};
 ghost use Rattle.rewind_run.specs.Running.{runOutcome};
-ghost use Rattle.usn_lines.specs.Promise.{PassPromise, PathPromise, runOr};
+ghost use Rattle.usn_lines.specs.Promise.{PassPromise, PathPromise, WithinPromise, TextStepPromise, runOr};
 use crate::Put;
 use additions::entries::replaces_forward;
 use entry_table::Stored;
@@ -20,9 +20,15 @@ use utf16::plain::put_byte;
 // The most bytes of a path that is shown.
 const MOST_PATH: usize = 65536;
 
+// A step with text: how many are made, which is 0 or 1, where the path ends, and the rewind after it.
+pub(crate) struct TextStep {
+    pub(crate) steps: usize,
+    pub(crate) end: usize,
+    pub(crate) rewind: Rewind,
+}
+
 // The next record's path, as it is shown, at the front of a text, and the rewind after it. A path that does not fit is one `?`, and
-// the record is passed without its path: whether it fits or not, table and rewind are what the step leaves. No index is lent: keys
-// can be chosen so that all have one hash, and then the walk along its links takes longer than the pass over all slots.
+// the record is passed without its path: whether it fits or not, table and rewind are what the step leaves.
 pub(crate) fn put_path(
     journal: &[u8],
     records: &[usize],
@@ -32,6 +38,47 @@ pub(crate) fn put_path(
 ) -> Put
     requires { ⌜ 65536 ≤ length (now text) ⌝ }
     ensures { λ r. ⌜ PathPromise journal records rewind forward text r ⌝ }
+{
+    put_within(journal, records, rewind, forward, text, MOST_PATH)
+}
+
+// The same with a path of at most so many bytes.
+fn put_within(
+    journal: &[u8],
+    records: &[usize],
+    rewind: Rewind,
+    forward: &mut [u64],
+    text: &mut [u8],
+    most: usize,
+) -> Put
+    requires { ⌜ (1 ≤ most) × (most ≤ length (now text)) ⌝ }
+    ensures { λ r. ⌜ WithinPromise journal records rewind forward text most r ⌝ }
+{
+    let step = step_with_text(journal, records, rewind, forward, &mut text[..most]);
+    if step.steps == 0 {
+        let end = put_byte(text, 0, b'?');
+        let passed = pass_record(journal, records, rewind, forward);
+        return Put {
+            end,
+            rewind: passed,
+        };
+    }
+    let end = step.end;
+    show(text, end);
+    let next = step.rewind;
+    Put { end, rewind: next }
+}
+
+// A step with all of a text for its path, or none where that has no room: a run that is asked for one. No index is lent: keys can be
+// chosen so that all have one hash, and then the walk along its links takes longer than the pass over all slots.
+fn step_with_text(
+    journal: &[u8],
+    records: &[usize],
+    rewind: Rewind,
+    forward: &mut [u64],
+    text: &mut [u8],
+) -> TextStep
+    ensures { λ r. ⌜ TextStepPromise journal records rewind forward text r ⌝ }
 {
     let mut heads: [u64; 0] = [];
     let mut nexts: [u64; 0] = [];
@@ -45,21 +92,17 @@ pub(crate) fn put_path(
         &mut heads,
         &mut nexts,
         &mut ends,
-        &mut text[..MOST_PATH],
+        text,
     );
     let run = run_or(rewind, answer);
-    if run.steps == 0 {
-        let end = put_byte(text, 0, b'?');
-        let passed = pass_record(journal, records, rewind, forward);
-        return Put {
-            end,
-            rewind: passed,
-        };
-    }
+    let steps = run.steps;
     let end = ends[0] as usize;
-    show(text, end);
     let next = run.rewind;
-    Put { end, rewind: next }
+    TextStep {
+        steps,
+        end,
+        rewind: next,
+    }
 }
 
 // The run that a call answers, or one of no steps where it is refused.
