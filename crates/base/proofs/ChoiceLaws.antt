@@ -7,6 +7,10 @@ pub cond-cases : {A : Type 0} (P : A → Type 0) (b : Bool) {x y : A} → (b ≡
 cond-cases P true h k = h refl
 cond-cases P false h k = k refl
 
+-- a choice between two that are the same
+pub cond-same : {A : Type 0} (b : Bool) (x : A) → x ≡ cond b x x
+cond-same b x = cond-cases (λ y. x ≡ y) b (λ _. refl) (λ _. refl)
+
 -- a relation of two choices by one test
 pub cond-two : {A B : Type 0} (R : A → B → Type 0) (b : Bool) {x y : A} {x′ y′ : B}
     → (b ≡ true → R x x′) → (b ≡ false → R y y′) → R (cond b x y) (cond b x′ y′)

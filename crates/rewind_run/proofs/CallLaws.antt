@@ -3,11 +3,11 @@
 use Prim.Native.Nat.{ℕ, _*_, _≤_, _<_}
 use mathlib.Core.Path.{_≡_, refl, ap, sym, _∙_}
 use mathlib.Core.List.{List, [], _++_}
-use mathlib.Core.Bool.{Bool, true, false, cond}
+use mathlib.Core.Bool.{Bool, true, false}
 use native.Mathlib.Omega.{arith}
 use lib.ListN.{length}
 use Rattle.base.specs.Outcome.{Outcome, refused, answered, mapOutcome}
-use Rattle.base.proofs.ChoiceLaws.{cond-cases}
+use Rattle.base.proofs.ChoiceLaws.{cond-same}
 use Rattle.entry_slots.specs.Slots.{stride, slotsIn}
 use Rattle.entry_slots.specs.Table.{Table}
 use Rattle.entry_slots.specs.Index.{headsOf, nextsOf, enough, headsLeft, nextsLeft}
@@ -25,13 +25,9 @@ use Rattle.rewind_run.specs.Promise.{runOut, RunsIndexed}
 use Rattle.rewind_run.specs.declared.RunAnswer.{RunAnswer}
 use Rattle.rewind_run.specs.declared.RunAnswer.the-variants.{Ran, Refused}
 
--- a choice between two that are the same
-chosen : {A : Type 0} (b : Bool) (x : A) → x ≡ cond b x x
-chosen b x = cond-cases (λ y. x ≡ y) b (λ _. refl) (λ _. refl)
-
 -- what a call that is refused leaves in the words for an index, with enough of them or not
 pub left-refused : (slots : ℕ) (o : Outcome Table) (heads nexts : List ℕ) {n : ℕ} → o ≡ refused n → (heads ≡ headsLeft slots o heads nexts) × (nexts ≡ nextsLeft slots o heads nexts)
-left-refused slots o heads nexts e = (rw e (chosen (enough slots heads nexts) heads), rw e (chosen (enough slots heads nexts) nexts))
+left-refused slots o heads nexts e = (rw e (cond-same (enough slots heads nexts) heads), rw e (cond-same (enough slots heads nexts) nexts))
 
 module _ (journal image records words : List ℕ) (r : Rewind) (heads nexts ends text : List ℕ) where
   abbrev t : Table

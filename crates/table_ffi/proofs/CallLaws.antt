@@ -2,12 +2,12 @@
 use Prim.Native.Nat.{ℕ, _≤_, _<_}
 use mathlib.Core.Path.{_≡_, refl}
 use mathlib.Core.List.{List}
-use mathlib.Core.Bool.{Bool, false, cond}
+use mathlib.Core.Bool.{false}
 use lib.ListN.{length}
 use Rattle.base.specs.Outcome.{Outcome}
 use Rattle.base.specs.Refusals.{listFull}
 use Rattle.base.specs.Words.{countWords, afterDomain, Answers}
-use Rattle.base.proofs.ChoiceLaws.{cond-cases}
+use Rattle.base.proofs.ChoiceLaws.{cond-same}
 use Rattle.base.proofs.WordLaws.{out-same, out-mapped, Domain, domain-short, domain-enough}
 use Rattle.entry_slots.specs.Slots.{slotsIn}
 use Rattle.entry_slots.specs.Table.{Table}
@@ -26,17 +26,13 @@ module _ (x : Outcome Table) (s l : List ℕ) where
       → Answers countWords (storingOutcome y) l r m → Stores (afterDomain 1 (length l) x) s l r t m
   stores-answered h y e g o = let p = out-mapped x (out-same o e) in rw (domain-enough x h) (record { answer = p .answer; table = g; row = p .row })
 
--- a choice between two that are the same
-chosen : {A : Type 0} (b : Bool) (x : A) → x ≡ cond b x x
-chosen b x = cond-cases (λ y. x ≡ y) b (λ _. refl) (λ _. refl)
-
 -- seeding by way of an index, likewise
 module _ (x : Outcome Table) (s h n l : List ℕ) where
   pub seeds-short : Domain false x → length l < 1 → Seeds (afterDomain 1 (length l) x) s h n l listFull s h n l
   seeds-short d q =
       let e = domain-short x d q refl in
       rw e
-      (record { store = record { answer = refl; table = refl; row = refl }; heads-are = chosen (enough (slotsIn s) h n) h; nexts-are = chosen (enough (slotsIn s) h n) n })
+      (record { store = record { answer = refl; table = refl; row = refl }; heads-are = cond-same (enough (slotsIn s) h n) h; nexts-are = cond-same (enough (slotsIn s) h n) n })
 
   pub seeds-answered : 1 ≤ length l → {y : Stored} {t h′ n′ m : List ℕ} {r : ℕ} → StoresIndexed x s h n y t h′ n′ → Answers countWords (storingOutcome y) l r m
       → Seeds (afterDomain 1 (length l) x) s h n l r t h′ n′ m
