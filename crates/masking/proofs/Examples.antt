@@ -45,7 +45,8 @@ use Rattle.utf16.specs.Utf16.{alone, codePoints, unitsAt}
 use Rattle.utf16.specs.Utf8.{utf8}
 use Rattle.utf16.specs.Text.{decoded}
 use Rattle.entry_slots.specs.Names.{lengths, lengthsOf, inside}
-use Rattle.entry_slots.specs.Slots.{sameKey, putAt, findFrom, rows}
+use Rattle.entry_slots.specs.Slots.{sameKey, putAt, findFrom}
+use Rattle.base.specs.Lists.{rows, every}
 use Rattle.entry_slots.specs.Table.{Table, addFound}
 use Rattle.additions.specs.Storing.{addAll, newKeys, adding}
 use Rattle.entry_slots.specs.declared.EntryKey.{EntryKey}
@@ -57,7 +58,6 @@ use Rattle.path.specs.Alike.{Alike}
 use Rattle.path_text.specs.Decoding.{placing, placeDecoding}
 use Rattle.path.specs.Written.{tracingWithText}
 use Rattle.additions.specs.Entries.{hasReason, entryFrom}
-use Rattle.base.specs.Lists.{every}
 use Rattle.rewind_records.specs.Environment.{rewindRefusal}
 use Rattle.rewind.specs.Starting.{starting}
 use Rattle.rewind_records.specs.Turning.{turning}
