@@ -4,7 +4,7 @@ use Prim.Native.Nat.{ℕ}
 use mathlib.Core.Path.{_≡_, refl, ap}
 use mathlib.Core.List.{List, [], _∷_, _++_}
 use native.Mathlib.Omega.{arith}
-use lib.ListN.{getD, take, replicate}
+use lib.ListN.{getD, take, drop, replicate}
 use Rattle.base.specs.Lists.{rows}
 use Rattle.base.specs.Masked.{Masked}
 use Rattle.base.specs.Outcome.{answered}
@@ -24,7 +24,7 @@ use Rattle.mft_sectors.specs.SectorEnds.{ending, sound, home, restoredBy, resto
 use Rattle.mft_carver.specs.Entry.{judged}
 use Rattle.mft_carver.specs.Carve.{imageVisit, statsOf, statsIn, carving}
 use Rattle.mft_carver.specs.Masking.{carvedHomes}
-use Rattle.mft_carver.specs.Sample.{sampleEntryHeader, beforeName, abc, nameAttribute, others, last, sampleArray, sample}
+use Rattle.mft_carver.specs.Sample.{sampleEntryHeader, beforeName, abc, nameAttribute, others, last, sampleArray, sample, beforeUnit, behindUnit, across}
 use Rattle.mft_carver.proofs.ImageTwoRuns.{SameCarving, call-two-runs}
 
 -- A $FILE_NAME attribute of 24 bytes at 56, whose content begins at 106, so that the length of its name would stand at 170: there the name of
@@ -64,21 +64,7 @@ image-masked = rw homes-abc (masked-bytes 170 6 (masked-middle front abc xbc bac
 pub image-two-runs : SameCarving standard (image abc) (image xbc) (replicate 9 0)
 image-two-runs = call-two-runs standard (omega arith) refl (image abc) (image xbc) (replicate 9 0) image-masked
 
--- A name of three units at 508, so that the second is the end of the first sector: there the check value 7 is stored, and the unit in the array.
-abbrev ahead : List ℕ
-ahead = sampleEntryHeader 3 56 ++ leBytes 4 42 ++ leBytes 2 7
-
-abbrev behind : List ℕ
-behind =
-    replicate 4 0
-    ++ leBytes 4 0x80 ++ leBytes 4 362 ++ replicate 354 0
-    ++ beforeName 1
-    ++ leBytes 2 0x61 ++ leBytes 2 7 ++ leBytes 2 0x63
-    ++ last ++ replicate 504 0 ++ leBytes 2 7
-
-abbrev across : ℕ → List ℕ
-across unit = ahead ++ (leBytes 2 unit ++ behind)
-
+-- A name with a unit at the end of the first sector.
 across-outcome : carving standard (across 0x62) 9
     ≡ answered (record { «bytes_scanned» = 1024; «candidates_examined» = 1; «entries_carved» = 1; rejected = 0 })
 unfolding carving from walk imageVisit hasSignature judged sound ending restoredBy rows home filenameIn attributeVisit attributeAt given keep replaces referenceOf leAt le
@@ -100,13 +86,19 @@ across-differs e = let z : _≡_ {A = ℕ} 0x62 0x78 = ap (λ (s : List ℕ). ge
 pub across-masked : Masked (across 0x62) (across 0x78) (carvedHomes standard (across 0x62) 9)
 unfolding rows
 across-masked =
-    let m = masked-bytes 50 2 (masked-middle ahead (leBytes 2 0x62) (leBytes 2 0x78) behind refl) in
+    let m = masked-bytes 50 2 (masked-middle beforeUnit (leBytes 2 0x62) (leBytes 2 0x78) behindUnit refl) in
     rw across-homes (record { long = m .long; same = λ i h. m .same i (h .1 .1 .0, (h .1 .1 .1 .0, tt)) })
 
 pub across-two-runs : SameCarving standard (across 0x62) (across 0x78) (replicate 9 0)
 across-two-runs = call-two-runs standard (omega arith) refl (across 0x62) (across 0x78) (replicate 9 0) across-masked
 
--- an entry is rejected whose second sector does not end with the array's first number
+-- Replacing what is stored at the name's own bytes is another matter: with another value at the end of the first sector the entry is rejected.
+pub stored-end-matters : statsIn standard (take 510 (across 0x62) ++ ((8 ∷ 0 ∷ []) ++ drop 512 (across 0x62)))
+    ≡ record { «bytes_scanned» = 1024; «candidates_examined» = 1; «entries_carved» = 0; rejected = 1 }
+unfolding from walk imageVisit hasSignature judged sound ending leAt le
+stored-end-matters = refl
+
+-- and so it is where the second sector does not end with the array's first number
 pub other-end : statsIn standard (take 1023 (across 0x62) ++ (1 ∷ []))
     ≡ record { «bytes_scanned» = 1024; «candidates_examined» = 1; «entries_carved» = 0; rejected = 1 }
 unfolding from walk imageVisit hasSignature judged sound ending leAt le

@@ -52,3 +52,21 @@ sampleArray value a b = leBytes 2 value ++ leBytes 2 a ++ leBytes 2 b ++ replica
 -- entry 42, with sequence 3 and these attributes, whose sectors end in zeros
 abbrev pub sample : List ℕ → List ℕ
 sample attributes = padded (sampleEntryHeader 3 56 ++ leBytes 4 42 ++ sampleArray 0 0 0 ++ attributes ++ last)
+
+-- Entry 42 with a name of three units at 508, a, a unit, and c: the unit is the end of the first sector, where the check value 7 is stored, and stands
+-- in the array.
+abbrev pub beforeUnit : List ℕ
+beforeUnit = sampleEntryHeader 3 56 ++ leBytes 4 42 ++ leBytes 2 7
+
+abbrev pub behindUnit : List ℕ
+behindUnit =
+    replicate 4 0
+    ++ (leBytes 4 0x80 ++ leBytes 4 362 ++ replicate 354 0)
+    ++ beforeName 1
+    ++ (leBytes 2 0x61 ++ leBytes 2 7 ++ leBytes 2 0x63)
+    ++ last
+    ++ replicate 504 0
+    ++ leBytes 2 7
+
+abbrev pub across : ℕ → List ℕ
+across unit = beforeUnit ++ (leBytes 2 unit ++ behindUnit)
