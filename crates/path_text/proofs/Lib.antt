@@ -1,3 +1,4 @@
 pub mod MarkerLaws
+pub mod ImageLaws
 pub mod NameLaws
 pub mod CallLaws
