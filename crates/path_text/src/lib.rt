@@ -5,6 +5,7 @@
 //
 // Every function here is proved. The call has no `requires`: any place gets an answer. The lengths of journal and image decide all
 // but the text and whether it fits. The writers of `text` are helpers of our own crates, which ask for room.
+mod stored;
 pub mod text;
 
 ghost use Rattle.path_text.specs.Promise.{DecodePromise};
