@@ -28,7 +28,7 @@ use Rattle.mft_carver.specs.Carve.{imageVisit}
 use Rattle.utf16.specs.Utf16.{alone, codePoints, unitsAt}
 use Rattle.utf16.specs.Utf8.{utf8}
 use Rattle.utf16.specs.Text.{decoded}
-use Rattle.path_text.specs.Text.{placeText}
+use Rattle.path_text.specs.Text.{imageText, placeText}
 use Rattle.known.specs.Case.{Case, same, right, rowsOf}
 use Rattle.known.specs.Scope.{scopeRows}
 use Rattle.path.specs.Sample.{timesA}
@@ -62,7 +62,7 @@ member (x ∷ cs) h c (List·Memᴰ·head q) = rw q (h .0)
 member (x ∷ cs) h c (List·Memᴰ·tail m) = member cs (h .1) c m
 
 computed : right computedCases ≡ true
-unfolding le leAt timestampOf referenceOf filenameOf recordOf parsed listed recordWords walk from kindByVersion kindOf scanVisit scanned scan judged carverVisitAs carverVisit carving stepAt steps toCome replaces keep given attributeAt filenameIn attributeVisit hasSignature sound ending rows home restoredBy entryJudged imageVisit inEntry imageBytes placeText unitsAt alone codePoints utf8 decoded
+unfolding le leAt timestampOf referenceOf filenameOf recordOf parsed listed recordWords walk from kindByVersion kindOf scanVisit scanned scan judged carverVisitAs carverVisit carving stepAt steps toCome replaces keep given attributeAt filenameIn attributeVisit hasSignature sound ending rows home restoredBy entryJudged imageVisit inEntry imageBytes imageText placeText unitsAt alone codePoints utf8 decoded
 computed = refl
 
 -- the names of a deep path, as the laws of such paths have them

@@ -22,7 +22,7 @@ use Rattle.additions.specs.Storing.{addAll, newKeys, adding, storing}
 use Rattle.chain.specs.Chain.{isRoot, chain}
 use Rattle.chain.specs.Tracing.{withPlaces, inDomain}
 use Rattle.chain.specs.declared.ChainEnd.the-variants.{Root}
-use Rattle.path_text.specs.Text.{endText, placeText, stepText, pathText}
+use Rattle.path_text.specs.Text.{endText, imageText, placeText, stepText, pathText}
 use Rattle.rewind_records.specs.Environment.{rewindRefusal}
 use Rattle.rewind_records.specs.Turning.{ended, next, turning}
 use Rattle.rewind_steps.specs.StepText.{recordText}
@@ -119,11 +119,11 @@ abbrev asked : List Plain
 asked = insert 0 (key 10 0) (info 1 508 6) ∷ seed 0 carved ∷ start 0 1 ∷ call.next 1 ∷ call.next 1 ∷ []
 
 left-one : plainsOf (struck one) ≡ asked
-unfolding scan scanned from walk scanVisit kindOf kindByVersion stored startResult nextResult storing starting rewindRefusal turning adding addAll addFound putAt newKeys findFrom sameKey every inside rows hasReason entryFrom chain isRoot withPlaces recordText pathText endText stepText placeText imageBytes inEntry hasSignature sound ending home restoredBy decoded codePoints alone utf8 unitsAt listed parsed recordOf referenceOf filenameOf leAt le
+unfolding scan scanned from walk scanVisit kindOf kindByVersion stored startResult nextResult storing starting rewindRefusal turning adding addAll addFound putAt newKeys findFrom sameKey every inside rows hasReason entryFrom chain isRoot withPlaces recordText pathText endText stepText placeText imageText imageBytes inEntry hasSignature sound ending home restoredBy decoded codePoints alone utf8 unitsAt listed parsed recordOf referenceOf filenameOf leAt le
 left-one = refl
 
 left-two : plainsOf (struck two) ≡ asked
-unfolding scan scanned from walk scanVisit kindOf kindByVersion stored startResult nextResult storing starting rewindRefusal turning adding addAll addFound putAt newKeys findFrom sameKey every inside rows hasReason entryFrom chain isRoot withPlaces recordText pathText endText stepText placeText imageBytes inEntry hasSignature sound ending home restoredBy decoded codePoints alone utf8 unitsAt listed parsed recordOf referenceOf filenameOf leAt le
+unfolding scan scanned from walk scanVisit kindOf kindByVersion stored startResult nextResult storing starting rewindRefusal turning adding addAll addFound putAt newKeys findFrom sameKey every inside rows hasReason entryFrom chain isRoot withPlaces recordText pathText endText stepText placeText imageText imageBytes inEntry hasSignature sound ending home restoredBy decoded codePoints alone utf8 unitsAt listed parsed recordOf referenceOf filenameOf leAt le
 left-two = refl
 
 -- the results that are left are the same, though run two took a call more
@@ -133,7 +133,7 @@ shared-results = scan-runs .later .calls empty cs ds (left-two ∙ sym left-one)
 -- after each of them the chain list of run one: the chain of either record is a folder whose name lies in the image
 pub chains : map (λ (r : Result). r .after .chain) (resultsOf (struck one))
     ≡ replicate 3 0 ∷ replicate 3 0 ∷ replicate 3 0 ∷ (1 ∷ 508 ∷ 6 ∷ []) ∷ (1 ∷ 508 ∷ 6 ∷ []) ∷ []
-unfolding scan scanned from walk scanVisit kindOf kindByVersion stored startResult nextResult storing starting rewindRefusal turning adding addAll addFound putAt newKeys findFrom sameKey every inside rows hasReason entryFrom chain isRoot withPlaces recordText pathText endText stepText placeText imageBytes inEntry hasSignature sound ending home restoredBy decoded codePoints alone utf8 unitsAt listed parsed recordOf referenceOf filenameOf leAt le
+unfolding scan scanned from walk scanVisit kindOf kindByVersion stored startResult nextResult storing starting rewindRefusal turning adding addAll addFound putAt newKeys findFrom sameKey every inside rows hasReason entryFrom chain isRoot withPlaces recordText pathText endText stepText placeText imageText imageBytes inEntry hasSignature sound ending home restoredBy decoded codePoints alone utf8 unitsAt listed parsed recordOf referenceOf filenameOf leAt le
 chains = refl
 
 -- The path of the carved folder, in a table of one slot: its text is the image's name, five bytes in run one and seven in run two, where 8 refuses it.
@@ -145,12 +145,12 @@ folder = record { places = placed 1 508 6 ∷ []; end = Root }
 
 pub path-texts : (pathText journal image folder ≡ 0x2E ∷ 0x5C ∷ 0x61 ∷ 0x62 ∷ 0x63 ∷ [])
     × (pathText journal′ image′ folder ≡ 0x2E ∷ 0x5C ∷ 0x61 ∷ 0xE2 ∷ 0x82 ∷ 0xAC ∷ 0x63 ∷ [])
-unfolding pathText endText stepText placeText imageBytes inEntry hasSignature sound ending home restoredBy rows decoded codePoints alone utf8 unitsAt leAt le
+unfolding pathText endText stepText placeText imageText imageBytes inEntry hasSignature sound ending home restoredBy rows decoded codePoints alone utf8 unitsAt leAt le
 path-texts = (refl, refl)
 
 pub path-in-one : (tracingWithText journal image seeded depth (key 42 3) 5 ≡ answered folder)
     × (tracingWithText journal′ image′ seeded depth (key 42 3) 5 ≡ refused textFull)
-unfolding tracing inDomain every inside findFrom sameKey chain isRoot pathText endText stepText placeText imageBytes inEntry hasSignature sound ending home restoredBy rows decoded codePoints alone utf8 unitsAt leAt le
+unfolding tracing inDomain every inside findFrom sameKey chain isRoot pathText endText stepText placeText imageText imageBytes inEntry hasSignature sound ending home restoredBy rows decoded codePoints alone utf8 unitsAt leAt le
 path-in-one = (refl, refl)
 
 -- A scan with a list of no words is refused with 5, so that no name of the journal may differ; its list is empty, and a rewind over it is at its end.
@@ -167,5 +167,5 @@ refused-runs =
     (record { images = images-masked; journals = unchanged journal (journalNames journal (scanPlaces journal [])); asked = tt })
 
 pub at-the-end : map (λ (d : Done). d .result .outcome) refusedReader ≡ answered (begun (record { used = 0; position = 0 })) ∷ answered (step ended) ∷ []
-unfolding scan scanned from walk scanVisit kindOf kindByVersion stored startResult nextResult storing starting rewindRefusal turning adding addAll addFound putAt newKeys findFrom sameKey every inside rows hasReason entryFrom chain isRoot withPlaces recordText pathText endText stepText placeText imageBytes inEntry hasSignature sound ending home restoredBy decoded codePoints alone utf8 unitsAt listed parsed recordOf referenceOf filenameOf leAt le
+unfolding scan scanned from walk scanVisit kindOf kindByVersion stored startResult nextResult storing starting rewindRefusal turning adding addAll addFound putAt newKeys findFrom sameKey every inside rows hasReason entryFrom chain isRoot withPlaces recordText pathText endText stepText placeText imageText imageBytes inEntry hasSignature sound ending home restoredBy decoded codePoints alone utf8 unitsAt listed parsed recordOf referenceOf filenameOf leAt le
 at-the-end = refl
