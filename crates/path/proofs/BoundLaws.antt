@@ -77,7 +77,7 @@ module _ (journal image : List ℕ) where
       where
         go : (b : Bool) → eqb (p .source) 0 ≡ b → length (stepText journal image p) ≤ 1 + 3 * (p .length / 2)
         go true s = omega (arith, step-long journal image p, ap length (journal-text journal image p (eqb-true (p .source) 0 s)), name-most journal (w .journalBytes) (p .offset) (p .length))
-        go false s = omega (arith, step-long journal image p, ap length (image-text journal image p (eqb-false (p .source) 0 s)), image-most image (w .imageBytes) (p .offset) (p .length))
+        go false s = omega (arith, step-long journal image p, ap length (image-text journal image p (eqb-false (p .source) 0 s)), image-most image (p .offset) (p .length) (w .imageBytes))
 
     pub step-enough : (p : NamePlace) → inside (lengthsOf journal image) p ≡ true → length (stepText journal image p) ≤ stepBound p
     step-enough p h =

@@ -81,6 +81,11 @@ pub past-the-entry : says (sample ++ (0x41 ∷ [])) 1023 2 ≡ 0xE4 ∷ 0x84 ∷
 unfolding placeText imageText imageBytes inEntry hasSignature sound ending home restoredBy rows decoded codePoints alone utf8 unitsAt leAt le
 past-the-entry = refl
 
+-- as stored: so does a place of odd length, whose last byte is not decoded
+pub odd-length : says (sample ++ (0x41 ∷ [])) 1022 3 ≡ 0xC4 ∷ 0x87 ∷ []
+unfolding placeText imageText imageBytes inEntry hasSignature sound ending home restoredBy rows decoded codePoints alone utf8 unitsAt leAt le
+odd-length = refl
+
 -- as stored: the image lacks the last byte of the entry
 pub past-the-image : says (take 1023 sample) 508 6 ≡ stored
 unfolding placeText imageText imageBytes inEntry hasSignature sound ending home restoredBy rows decoded codePoints alone utf8 unitsAt leAt le

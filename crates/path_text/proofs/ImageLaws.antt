@@ -3,9 +3,8 @@
 use Prim.Native.Nat.{ℕ, _+_, _*_, _/_, _%_, _≤_, _<_}
 use mathlib.Core.Path.{_≡_, refl, ap, sym, _∙_}
 use mathlib.Core.List.{List}
-use mathlib.Core.Bool.{Bool, true, false, not}
+use mathlib.Core.Bool.{Bool, true, false, false≢true}
 use native.Mathlib.Omega.{arith}
-use borrow.Author.Tests.{not-true}
 use lib.ListN.{length, getD, drop, length-append}
 use Rattle.base.specs.Lists.{overwrite}
 use Rattle.base.specs.Places.{part}
@@ -16,6 +15,7 @@ use Rattle.mft_sectors.proofs.StoredLaws.{plain-bytes, as-stored, entry-bytes, 
 use Rattle.utf16.specs.Text.{nameText}
 use Rattle.utf16.proofs.TextLaws.{name-most, name-least, name-part, name-front}
 use Rattle.path_text.specs.Text.{entrySize, imageText}
+use Rattle.path_text.specs.Restoring.{Restores}
 
 -- for entries of any size
 module _ (size : ℕ) (s : List ℕ) (p : Place) where
@@ -35,19 +35,15 @@ module _ (size : ℕ) (s : List ℕ) (p : Place) where
   copied : inEntry size s p ≡ true → (l : List ℕ) {m : List ℕ} → m ≡ overwrite l (imageBytes size s p) → text ≡ nameText m 0 (p .length)
   copied h l e = sym (ap (λ (b : List ℕ). nameText b 0 (p .length)) e ∙ name-front l (imageBytes size s p) (p .length) (entry-bytes size s p h))
 
--- a place of the image, as code makes it
-abbrev at : ℕ → ℕ → Place
-at offset n = record { offset = offset; length = n }
-
--- a name that lies inside, and meets no sector's end or lies in no entry
-module _ (image : List ℕ) (offset n : ℕ) (l : offset + n ≤ length image) where
-  pub plain-text : offset % sector + n ≤ body → imageText image offset n ≡ nameText image offset n
+-- whether a name that lies inside is read from a restored entry, by the tests that decide it
+module _ (image : List ℕ) (p : Place) (l : p .offset + p .length ≤ length image) where
+  pub not-met : p .offset % sector + p .length ≤ body → Restores image p false
   unfolding imageText
-  plain-text u = plain entrySize image (at offset n) l refl u
+  not-met u = record { yes = λ e. absurd (false≢true e); no = λ _. plain entrySize image p l refl u }
 
-  pub outside-text : {b : Bool} → b ≡ inEntry entrySize image (at offset n) → not b ≡ true → imageText image offset n ≡ nameText image offset n
+  pub by-entry : {r : Bool} → r ≡ inEntry entrySize image p → Restores image p r
   unfolding imageText
-  outside-text e h = outside entrySize image (at offset n) l (sym e ∙ not-true _ h)
+  by-entry f = record { yes = λ e. sym f ∙ e; no = λ e. outside entrySize image p l (sym f ∙ e) }
 
 -- a name that lies in an entry: its bytes have room, and the text is theirs
 module _ (image : List ℕ) (p : Place) (h : inEntry entrySize image p ≡ true) where
@@ -64,10 +60,14 @@ module _ (image : List ℕ) (p : Place) (h : inEntry entrySize image p ≡ true)
   copied-text l e = copied entrySize image p h l e
 
 -- one to three bytes for each unit
-pub image-least : (image : List ℕ) (offset n : ℕ) → n / 2 ≤ length (imageText image offset n)
-unfolding imageText
-image-least image offset n = name-least (imageBytes entrySize image (at offset n)) 0 n
+module _ (image : List ℕ) (offset n : ℕ) where
+  abbrev bytes : List ℕ
+  bytes = imageBytes entrySize image (record { offset = offset; length = n })
 
-pub image-most : (image : List ℕ) → ((i : ℕ) → getD image i 0 < 256) → (offset n : ℕ) → length (imageText image offset n) ≤ 3 * (n / 2)
-unfolding imageText
-image-most image b offset n = name-most (imageBytes entrySize image (at offset n)) (image-bytes-small entrySize image (at offset n) b) 0 n
+  pub image-least : n / 2 ≤ length (imageText image offset n)
+  unfolding imageText
+  image-least = name-least bytes 0 n
+
+  pub image-most : ((i : ℕ) → getD image i 0 < 256) → length (imageText image offset n) ≤ 3 * (n / 2)
+  unfolding imageText
+  image-most b = name-most bytes (image-bytes-small entrySize image (record { offset = offset; length = n }) b) 0 n

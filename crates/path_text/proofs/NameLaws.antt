@@ -64,7 +64,7 @@ step-most journal image p w e = go (eqb (p .source) 0) refl
         omega (arith, step-long journal image p, ap length (journal-text journal image p z), journal-inside journal image p z e, name-most journal (w .journalBytes) (p .offset) (p .length), w .journalLong)
     go false s =
         let z = eqb-false (p .source) 0 s in
-        omega (arith, step-long journal image p, ap length (image-text journal image p z), image-inside journal image p z e, image-most image (w .imageBytes) (p .offset) (p .length), w .imageLong)
+        omega (arith, step-long journal image p, ap length (image-text journal image p z), image-inside journal image p z e, image-most image (p .offset) (p .length) (w .imageBytes), w .imageLong)
 
 -- a name takes a byte for each unit at least
 pub place-least : (journal image : List ℕ) (p : NamePlace) → p .length / 2 ≤ length (placeText journal image p)

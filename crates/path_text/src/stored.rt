@@ -6,6 +6,7 @@ ghost use lib.ListN.{length};
 ghost use lib.Seq.{sets};
 ghost use Rattle.mft_sectors.specs.Stored.{inEntry};
 ghost use Rattle.path_text.specs.Text.{entrySize, imageText};
+ghost use Rattle.path_text.specs.Restoring.{Restores};
 use base::Place;
 use mft_sectors::sound::BODY;
 use mft_sectors::sound::SECTOR;
@@ -17,22 +18,19 @@ use utf16::name::put_name;
 // The bytes of an MFT entry.
 const ENTRY_SIZE: usize = 1024;
 
-// How many bytes the text takes. A name that meets no sector's end is the same in a restored entry, and nothing else is tested then.
+// How many bytes the text takes.
 pub(crate) fn image_length(image: &[u8], offset: usize, size: usize) -> usize
     requires { ⌜ offset + size ≤ length (now image) ⌝ }
     ensures { λ r. ⌜ r ≡ length (imageText (now (image .entry)) offset size) ⌝ }
 {
-    if offset % SECTOR + size <= BODY {
-        return name_length(image, offset, size);
-    }
     let place = Place {
         offset,
         length: size,
     };
-    if !in_entry(image, place, ENTRY_SIZE) {
-        return name_length(image, offset, size);
+    if is_restored(image, place) {
+        return restored_length(image, place);
     }
-    restored_length(image, place)
+    name_length(image, offset, size)
 }
 
 // The text itself, into one that has room for it.
@@ -48,20 +46,28 @@ pub(crate) fn put_image(
     ensures { λ r. ⌜ r ≡ at + length (imageText (now (image .entry)) offset size) ⌝ }
     ensures { λ _. ⌜ now (text .exit) ≡ sets (now (text .entry)) at (imageText (now (image .entry)) offset size) ⌝ }
 {
-    if offset % SECTOR + size <= BODY {
-        return put_name(image, offset, size, text, at);
-    }
     let place = Place {
         offset,
         length: size,
     };
-    if !in_entry(image, place, ENTRY_SIZE) {
-        return put_name(image, offset, size, text, at);
+    if is_restored(image, place) {
+        return put_from_entry(image, place, text, at);
     }
-    put_from_entry(image, place, text, at)
+    put_name(image, offset, size, text, at)
 }
 
-// The same for a place in an entry, which is copied as restored. These stand apart, so that the copy takes no room on the way above.
+// Whether a name is read from a restored entry. One that meets no sector's end is the same there, and nothing else is tested then.
+fn is_restored(image: &[u8], place: Place) -> bool
+    requires { ⌜ place .offset + place .length ≤ length (now image) ⌝ }
+    ensures { λ r. ⌜ Restores (now (image .entry)) place r ⌝ }
+{
+    if place.offset % SECTOR + place.length <= BODY {
+        return false;
+    }
+    in_entry(image, place, ENTRY_SIZE)
+}
+
+// Length and text for a place in an entry: its bytes are copied as restored. These stand apart, so that most names need no room for a copy.
 fn restored_length(image: &[u8], place: Place) -> usize
     requires { ⌜ inEntry entrySize (now image) place ≡ true ⌝ }
     ensures { λ r. ⌜ r ≡ length (imageText (now (image .entry)) (place .offset) (place .length)) ⌝ }
