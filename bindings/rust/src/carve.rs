@@ -139,6 +139,20 @@ mod tests {
     }
 
     #[test]
+    fn parts_give_the_restored_names_of_the_whole() {
+        let data = include_bytes!("../../../tests/samples/sector-ends.bin");
+        let whole = carve_in_parts(data, MAX_SLICE);
+        assert_eq!(whole.1.entries_carved, 28);
+        for entries in [1, 2, 7, 31] {
+            assert_eq!(
+                carve_in_parts(data, entries * ENTRY_BYTES),
+                whole,
+                "parts of {entries} entries"
+            );
+        }
+    }
+
+    #[test]
     fn a_list_grows_until_it_is_long_enough() {
         let data = image(20);
         let whole = carved(&data, 20 * ENTRY_WORDS);
