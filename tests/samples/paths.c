@@ -96,14 +96,15 @@ static void print_entry(const uint64_t *entry, const uint64_t *slots, size_t slo
 int main(int argc, char **argv)
 {
     uint64_t out[MFT_CARVING_WORDS], used, *list, *slots;
-    size_t entries, slots_len, i;
+    size_t room, entries, slots_len, i;
 
     if (argc != 2) {
         stop("usage: paths IMAGE");
     }
     read_image(argv[1]);
-    list = words(image_len / 1024 * MFT_ENTRY_WORDS);
-    answered("mft_carve_entries", mft_carve_entries(image, image_len, list, image_len / 1024 * MFT_ENTRY_WORDS, out, MFT_CARVING_WORDS));
+    room = image_len / 1024 * MFT_ENTRY_WORDS;
+    list = words(room);
+    answered("mft_carve_entries", mft_carve_entries(image, image_len, list, room, out, MFT_CARVING_WORDS));
     entries = out[MFT_CARVING_ENTRIES_CARVED];
     printf("entries %zu candidates %" PRIu64 " rejected %" PRIu64 " bytes %" PRIu64 "\n", entries,
            out[MFT_CARVING_CANDIDATES_EXAMINED], out[MFT_CARVING_REJECTED], out[MFT_CARVING_BYTES_SCANNED]);
