@@ -1,6 +1,6 @@
 //! Images: the carver of MFT entries, `carve.rs` of the original, against the library's. The subject is `image`.
 
-mod arrays;
+pub mod arrays;
 pub mod cases;
 mod comparison;
 mod edges;

@@ -91,6 +91,7 @@ fn exhaustive(above: &[u8]) -> Result<u64, Difference> {
     group("sector ends", sector_ends::places())?;
     group("carved names at sector ends", sector_ends::carved())?;
     group("cut entries", sector_ends::cut())?;
+    group("arrays", sector_ends::arrays())?;
     group("refused additions", refusals::additions(letters, above))?;
     group("refused paths", refusals::paths(letters, above))?;
     group("domain", refusals::domain(above))?;

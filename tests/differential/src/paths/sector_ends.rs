@@ -7,10 +7,11 @@ use super::model::restored;
 use super::pair::{Added, Pair, STORED};
 use super::places;
 use crate::difference::Finding;
+use crate::image::arrays;
 use crate::image::layout::{
     Entry, Name, ARRAY, ARRAY_BYTES, ARRAY_COUNT, ENTRY, FIRST_ATTRIBUTE, NAME, RESIDENT, SECTOR_ENDS, SEQUENCE,
 };
-use crate::names::comparison::{Room, OUT};
+use crate::names::comparison::{hex, Room, OUT};
 
 const KEY: Key = [42, 3];
 
@@ -169,4 +170,22 @@ pub fn cut() -> Result<u64, Finding> {
         }
     }
     Ok(cases)
+}
+
+/// The places at and around both sectors' ends of each exhaustive entry whose array or sector ends decide.
+pub fn arrays() -> Result<u64, Finding> {
+    let mut images = Vec::new();
+    arrays::entries(&mut |_, entry| images.push(entry));
+    for image in &images {
+        let names = Sources { journal: &[], image };
+        for end in SECTOR_ENDS {
+            for [offset, length] in [[end, 2], [end - 1, 2], [end + 1, 1]] {
+                decoded(names, [1, offset as u64, length as u64]).map_err(|finding| Finding {
+                    call: format!("{}, in the entry {}", finding.call, hex(image)),
+                    ..finding
+                })?;
+            }
+        }
+    }
+    Ok(images.len() as u64)
 }
