@@ -30,6 +30,13 @@ pub struct Difference(String);
 
 pub type Outcome = Result<(), Difference>;
 
+impl Difference {
+    /// A run that met nothing of what it must show.
+    pub fn not_met(subject: &str, what: &str) -> Self {
+        Self(format!("{subject}: FAILED, no case had {what}"))
+    }
+}
+
 /// Inputs below this many bytes are printed whole.
 const WHOLE: usize = 4096;
 

@@ -25,7 +25,7 @@ mod window;
 
 include!(concat!(env!("OUT_DIR"), "/original.rs"));
 
-use difference::Outcome;
+use difference::{Difference, Outcome};
 use recording::Recording;
 use std::io;
 use std::path::Path;
@@ -39,6 +39,19 @@ pub struct Run {
     pub seed: u64,
     pub cases: u64,
     pub only: Option<String>,
+}
+
+/// How many random cases each subject has where the command line does not say.
+const CASES: u64 = 1_000_000;
+
+impl Run {
+    /// Something that a run must have met to show anything of it; a short run may not have.
+    pub fn met(&self, subject: &str, what: &str, count: u64) -> Outcome {
+        match count == 0 && self.cases >= CASES {
+            true => Err(Difference::not_met(subject, what)),
+            false => Ok(()),
+        }
+    }
 }
 
 /// A subject: its name, and what compares it.
@@ -130,7 +143,7 @@ fn compare(run: &Run) -> Outcome {
 fn command(mut words: impl Iterator<Item = String>) -> Option<Command> {
     let mut run = Run {
         seed: 1,
-        cases: 1_000_000,
+        cases: CASES,
         only: None,
     };
     let mut other = None;

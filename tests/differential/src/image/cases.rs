@@ -1,9 +1,10 @@
 //! The random images: one to eight entries sound and damaged, with names of every namespace, empty blocks and rubbish
 //! in any order, whole or cut.
 
+use super::ends::{name_at_a_sector_end, stored};
 use super::layout::{
-    Entry, Name, CONTENT_OFFSET, CONTENT_SIZE, END, ENTRY, FILE_NAME, FIRST, FIRST_ATTRIBUTE, FLAGS, LENGTH, NAME,
-    NAMESPACE, NON_RESIDENT, NUMBER, RESIDENT, SEQUENCE, SIGNATURE, UNITS,
+    Entry, Name, ARRAY, ARRAY_COUNT, ARRAY_OFFSET, CONTENT_OFFSET, CONTENT_SIZE, END, ENTRY, FILE_NAME, FIRST,
+    FIRST_ATTRIBUTE, FLAGS, LENGTH, NAME, NAMESPACE, NON_RESIDENT, NUMBER, RESIDENT, SEQUENCE, SIGNATURE, UNITS,
 };
 use crate::names::cases::unit;
 use crate::random::Random;
@@ -38,37 +39,46 @@ pub fn fill(random: &mut Random, bytes: &mut Vec<u8>) -> (&'static str, u64) {
     (kind, entries as u64)
 }
 
-/// Appends an entry or another block of the same length.
+/// Appends an entry or another block of the same length. What is wrong with an entry is so before it is stored, or as
+/// often after it.
 fn append(random: &mut Random, bytes: &mut Vec<u8>) {
-    match random.below(32) {
-        0..=9 => bytes.extend(realistic(random)),
-        10..=16 => bytes.extend(any(random)),
+    let start = bytes.len();
+    let entry = match random.below(32) {
+        0..=9 => realistic(random),
+        10..=16 => any(random),
         17..=20 => {
             let mut entry = realistic(random);
-            edge_field(random, &mut entry);
-            bytes.extend(entry);
+            edge_field(random, &mut entry.bytes);
+            entry
         }
         21..=24 => {
             let mut entry = any(random);
             for _ in 0..random.between(1, 3) {
-                edge_field(random, &mut entry);
+                edge_field(random, &mut entry.bytes);
             }
-            bytes.extend(entry);
+            entry
         }
         25..=27 => {
             let mut entry = realistic(random);
-            damage(random, &mut entry);
-            bytes.extend(entry);
+            if random.one_in(2) {
+                damage(random, &mut entry.bytes);
+                bytes.extend(stored(random, entry));
+            } else {
+                bytes.extend(stored(random, entry));
+                damage(random, &mut bytes[start..]);
+            }
+            return;
         }
-        28 => bytes.extend(many(random)),
-        29 => bytes.resize(bytes.len() + ENTRY, 0),
-        30 => random.append(bytes, ENTRY),
-        _ => rubbish(random, bytes),
-    }
+        28 => many(random),
+        29 => return bytes.resize(start + ENTRY, 0),
+        30 => return random.append(bytes, ENTRY),
+        _ => rubbish(random),
+    };
+    bytes.extend(stored(random, entry));
 }
 
 /// An entry as a volume has them: standard information, one or two names, data.
-fn realistic(random: &mut Random) -> Vec<u8> {
+fn realistic(random: &mut Random) -> Entry {
     let mut entry = header(random, FIRST, 0);
     entry.attribute(0x10, 96);
     match random.below(4) {
@@ -80,7 +90,7 @@ fn realistic(random: &mut Random) -> Vec<u8> {
         _ => short_name(random, &mut entry, 3),
     }
     entry.attribute(0x80, 72);
-    entry.ended()
+    entry.end()
 }
 
 fn short_name(random: &mut Random, entry: &mut Entry, namespace: u8) {
@@ -89,7 +99,12 @@ fn short_name(random: &mut Random, entry: &mut Entry, namespace: u8) {
     for unit in &mut name.units {
         *unit = 0x20 + random.below(0x2000) as u16;
     }
-    entry.name(&name);
+    match random.one_in(3) {
+        true => name_at_a_sector_end(random, entry, &name),
+        false => {
+            entry.name(&name);
+        }
+    }
 }
 
 /// A header of any numbers; the sequence is seldom 0.
@@ -106,10 +121,10 @@ fn header(random: &mut Random, first: usize, filler: u8) -> Entry {
 }
 
 /// An entry with attributes of any kind, as long as there is room.
-fn any(random: &mut Random) -> Vec<u8> {
+fn any(random: &mut Random) -> Entry {
     let first = match random.below(4) {
-        0 => random.between(48, 600),
-        1 => random.pick(&[48, 49, 900]),
+        0 => random.between(54, 600),
+        1 => random.pick(&[48, 53, 54, 55, 900]),
         _ => FIRST,
     };
     let filler = random.pick(&[0, 0, 0, 1, 0x30, 0xff]);
@@ -121,9 +136,9 @@ fn any(random: &mut Random) -> Vec<u8> {
         attribute(random, &mut entry);
     }
     if random.one_in(8) {
-        entry.bytes
+        entry
     } else {
-        entry.ended()
+        entry.end()
     }
 }
 
@@ -139,10 +154,14 @@ fn attribute(random: &mut Random, entry: &mut Entry) {
             let at = entry.attribute(random.pick(&[FILE_NAME, 0x80]), random.between(24, 160));
             entry.put(at + NON_RESIDENT, 1, random.pick(&[1, 1, 2, 255]));
         }
+        2 => {
+            let name = any_name(random);
+            name_at_a_sector_end(random, entry, &name);
+        }
         choice => {
             let name = any_name(random);
             let at = entry.name(&name);
-            if choice < 5 {
+            if choice < 6 {
                 edge_name(random, entry, at, &name);
             }
         }
@@ -201,7 +220,7 @@ fn edge_name(random: &mut Random, entry: &mut Entry, at: usize, name: &Name) {
 }
 
 /// An entry with about as many attributes as are walked, most of them short, and a name or two among them.
-fn many(random: &mut Random) -> Vec<u8> {
+fn many(random: &mut Random) -> Entry {
     let mut entry = header(random, FIRST, 0);
     let count = random.between(15, ATTRIBUTES);
     let named = [random.below(count), random.between(15, ATTRIBUTES)];
@@ -213,7 +232,7 @@ fn many(random: &mut Random) -> Vec<u8> {
             entry.attribute(0x80, random.pick(&[8, 16, 24]));
         }
     }
-    entry.ended()
+    entry.end()
 }
 
 /// Gives an entry a number at which the carver decides, in the header or in one of its attributes.
@@ -284,10 +303,10 @@ fn damage(random: &mut Random, entry: &mut [u8]) {
     }
 }
 
-/// Appends random bytes behind a signature and a first attribute offset that is accepted; half of their words are so
-/// small that they may be lengths, types and flags.
-fn rubbish(random: &mut Random, bytes: &mut Vec<u8>) {
-    let start = bytes.len();
+/// Random bytes behind a signature, a first attribute offset that is accepted and mostly an array's place; half of their
+/// words are so small that they may be lengths, types and flags.
+fn rubbish(random: &mut Random) -> Entry {
+    let mut bytes = Vec::new();
     for _ in 0..ENTRY / 4 {
         let number = random.number();
         let word = match number % 4 {
@@ -297,8 +316,12 @@ fn rubbish(random: &mut Random, bytes: &mut Vec<u8>) {
         } as u32;
         bytes.extend_from_slice(&word.to_le_bytes());
     }
-    let entry = &mut bytes[start..];
-    entry[..4].copy_from_slice(&SIGNATURE);
-    let first = 4 * random.between(12, 250) as u16;
-    entry[FIRST_ATTRIBUTE..FIRST_ATTRIBUTE + 2].copy_from_slice(&first.to_le_bytes());
+    let mut entry = Entry::of(bytes);
+    entry.lay(0, &SIGNATURE);
+    entry.put(FIRST_ATTRIBUTE, 2, 4 * random.between(12, 250) as u64);
+    if !random.one_in(4) {
+        entry.put(ARRAY_OFFSET, 2, ARRAY as u64);
+        entry.put(ARRAY_COUNT, 2, 3);
+    }
+    entry
 }

@@ -1,9 +1,11 @@
 //! `mft_carve_entries` held against the Rust and against the scope: the number answered, the words of the list and of
-//! the answer, those left alone, and the text at each name's place.
+//! the answer, those left alone, and the text at each name's place. The Rust carves the restored copy of the image, and
+//! the stored image where its sector ends are the true ones.
 
 use super::layout::{sound, ENTRY};
+use super::restored::{restored, Kind};
 use super::walk::{self, Counters, Entry};
-use crate::carve::{carve_mft_entries, CarvedMftEntry};
+use crate::carve::{carve_mft_entries, CarvedMftEntry, MftCarvingStats};
 use crate::difference::{Case, Difference, Finding};
 use crate::lent::{beginning, untouched, Lent, BEHIND};
 use crate::library::{
@@ -11,8 +13,11 @@ use crate::library::{
     NO_ROOM,
 };
 use crate::names::comparison::{self as decoding, text, Room};
+use crate::paths::library::Sources;
+use crate::paths::{model, places};
 use crate::random::Random;
 use crate::records::answers::named;
+use std::ops::AddAssign;
 
 const CALL: &str = "mft_carve_entries";
 
@@ -23,6 +28,25 @@ const OUT: usize = MFT_CARVING_FIELDS.len();
 pub struct Walk {
     pub entries: Vec<Entry>,
     pub counters: Counters,
+}
+
+/// How many candidates had an array that fails a test, how many had true ends as stored, how many were carved that had
+/// others, and how many of these have another name than the bytes that are stored.
+#[derive(Debug, Default, Clone, Copy)]
+pub struct Met {
+    pub unsound: u64,
+    pub as_stored: u64,
+    pub restored: u64,
+    pub names: u64,
+}
+
+impl AddAssign for Met {
+    fn add_assign(&mut self, other: Self) {
+        self.unsound += other.unsound;
+        self.as_stored += other.as_stored;
+        self.restored += other.restored;
+        self.names += other.names;
+    }
 }
 
 /// What our call answered, with all the words, those lent and those behind them.
@@ -123,17 +147,11 @@ impl Walk {
         Ok(())
     }
 
-    /// Holds the Rust's answer to the walk: the counters, every field of each entry, and its name to the text at the
-    /// place, which our decoder gives too.
-    fn compare_rust(&self, image: &[u8]) -> Result<(), Finding> {
-        let (rust, stats) = carve_mft_entries(image);
-        let counters = [
-            stats.bytes_scanned as u64,
-            stats.candidates_examined,
-            stats.entries_carved as u64,
-            stats.rejected,
-        ];
-        let what = if counters != self.counters {
+    /// Holds the Rust's answer to the copy of the image to the walk over the stored one: the counters, every field of each
+    /// entry, and its name to the text of the walk's bytes and to that of its place, which our decoders give too.
+    fn compare_restored(&self, image: &[u8], copy: &[u8]) -> Result<(), Finding> {
+        let (rust, stats) = carve_mft_entries(copy);
+        let what = if counters(&stats) != self.counters {
             Some("the scope counts otherwise than the Rust".to_string())
         } else if rust.len() != self.entries.len() {
             Some("the scope finds another number of entries than the Rust".to_string())
@@ -141,28 +159,76 @@ impl Walk {
             let mut pairs = self.entries.iter().zip(&rust);
             pairs.find_map(|(words, entry)| against_rust(image, words, entry))
         };
-        let Some(what) = what else {
-            let mut pairs = self.entries.iter().zip(&rust);
-            return pairs.try_for_each(|(words, entry)| {
-                let bytes = bytes_at(image, words).expect("the name's place lies inside");
-                let room = Room {
-                    text: entry.filename.len(),
-                    out: decoding::OUT,
-                };
-                decoding::compare(bytes, entry.filename.as_bytes(), &[room])
-            });
-        };
-        Err(Finding {
-            call: format!("{CALL}, not called yet"),
+        if let Some(what) = what {
+            return Err(self.finding(what, "the restored copy", &rust, &stats));
+        }
+        let mut pairs = self.entries.iter().zip(&rust);
+        pairs.try_for_each(|(words, entry)| compare_text(image, words, &entry.filename))
+    }
+
+    /// Holds the Rust's answer to the stored image to the walk, for each entry whose array fails no test and whose true
+    /// sector ends are those stored: carved or not, and every field. The counters are equal where every candidate is such.
+    fn compare_as_stored(&self, image: &[u8], kinds: &[Kind]) -> Result<(), Finding> {
+        if !kinds.contains(&Kind::AsStored) {
+            return Ok(());
+        }
+        let (rust, stats) = carve_mft_entries(image);
+        let alike = kinds.iter().enumerate().filter(|(_, &kind)| kind == Kind::AsStored);
+        let mut each = alike.map(|(index, _)| {
+            let ours = self.entries.iter().find(|words| words[0] == (index * ENTRY) as u64);
+            let theirs = rust.iter().find(|entry| entry.offset == index * ENTRY);
+            match (ours, theirs) {
+                (None, None) => None,
+                (Some(words), Some(entry)) => against_rust(image, words, entry),
+                _ => Some(format!("entry {index} is carved by one alone")),
+            }
+        });
+        let all = !kinds.contains(&Kind::Unsound) && !kinds.contains(&Kind::Restored);
+        let what = each.find_map(|what| what).or_else(|| {
+            let differ = all && counters(&stats) != self.counters;
+            differ.then(|| "the scope counts otherwise than the Rust".to_string())
+        });
+        match what {
+            None => Ok(()),
+            Some(what) => Err(self.finding(what, "the stored image", &rust, &stats)),
+        }
+    }
+
+    fn finding(&self, what: String, carved: &str, rust: &[CarvedMftEntry], stats: &MftCarvingStats) -> Finding {
+        Finding {
+            call: format!("{CALL}, not called yet; the Rust carves {carved}"),
             what,
             rust: format!(
                 "{}, entries {:?}",
-                named(&MFT_CARVING_FIELDS, &counters),
-                beginning(&rust)
+                named(&MFT_CARVING_FIELDS, &counters(stats)),
+                beginning(rust)
             ),
             ours: format!("the scope: {}", self.shown()),
-        })
+        }
     }
+
+    /// What became of the entries.
+    fn met(&self, image: &[u8], kinds: &[Kind]) -> Met {
+        let count = |kind| kinds.iter().filter(|&&other| other == kind).count() as u64;
+        let restored = |words: &&Entry| kinds[words[0] as usize / ENTRY] == Kind::Restored;
+        let changed = |words: &&Entry| bytes_at(image, words) != walk::name_bytes(image, words);
+        Met {
+            unsound: count(Kind::Unsound),
+            as_stored: count(Kind::AsStored),
+            restored: self.entries.iter().filter(restored).count() as u64,
+            names: self.entries.iter().filter(changed).count() as u64,
+        }
+    }
+}
+
+/// The Rust's counters, in the order of ours.
+fn counters(stats: &MftCarvingStats) -> Counters {
+    [
+        stats.bytes_scanned as u64,
+        stats.candidates_examined,
+        stats.entries_carved as u64,
+        stats.rejected,
+    ]
 }
 
 /// The first thing in which the words of an entry are not those of the Rust's.
@@ -182,24 +248,47 @@ fn against_rust(image: &[u8], words: &Entry, rust: &CarvedMftEntry) -> Option<St
             ENTRY_FIELDS[at]
         ));
     }
-    match bytes_at(image, words).map(text) {
-        None => Some("the name's place lies outside the image".to_string()),
-        Some(text) => (text != rust.filename).then(|| format!("the name reads {text:?} at the scope's place")),
-    }
+    let text = text(&walk::name_bytes(image, words));
+    (text != rust.filename).then(|| format!("the name reads {text:?} at the scope's place"))
 }
 
-/// The bytes at a name's place.
-fn bytes_at<'a>(image: &'a [u8], words: &Entry) -> Option<&'a [u8]> {
+/// The bytes that are stored at a name's place.
+fn bytes_at<'a>(image: &'a [u8], words: &Entry) -> &'a [u8] {
     let [offset, length] = [words[ENTRY_NAME], words[ENTRY_NAME + 1]].map(|word| word as usize);
-    image.get(offset..)?.get(..length)
+    &image[offset..offset + length]
+}
+
+/// The Rust's name of an entry is what our decoder makes of the walk's bytes, and what the place in the stored image is
+/// decoded to, by the scope and by ours.
+fn compare_text(image: &[u8], words: &Entry, filename: &str) -> Result<(), Finding> {
+    let room = Room {
+        text: filename.len(),
+        out: decoding::OUT,
+    };
+    decoding::compare(&walk::name_bytes(image, words), filename.as_bytes(), &[room])?;
+    let names = Sources { journal: &[], image };
+    let place = [1, words[ENTRY_NAME], words[ENTRY_NAME + 1]];
+    let decoded = model::name(names, place);
+    if decoded != filename {
+        return Err(Finding {
+            call: format!("decoding of {place:?}, not called yet"),
+            what: "the place is decoded to another name than the Rust's".to_string(),
+            rust: format!("{filename:?}"),
+            ours: format!("the scope: {decoded:?}"),
+        });
+    }
+    places::compare(names, place, &[room])
 }
 
 /// The Rust, the scope and our carver on one image, which is lent what `lent` says for its number of entries.
-pub fn compare(image: &[u8], lent: impl FnOnce(usize) -> Vec<Lent>) -> Result<Walk, Finding> {
+pub fn compare(image: &[u8], lent: impl FnOnce(usize) -> Vec<Lent>) -> Result<(Walk, Met), Finding> {
     let walk = Walk::of(image);
-    walk.compare_rust(image)?;
+    let copy = restored(image);
+    walk.compare_restored(image, &copy.bytes)?;
+    walk.compare_as_stored(image, &copy.entries)?;
     walk.compare_ours(image, &lent(walk.entries.len()))?;
-    Ok(walk)
+    let met = walk.met(image, &copy.entries);
+    Ok((walk, met))
 }
 
 /// The lists lent where every one is tried: just enough, one to ten words more, one to ten too few, none, and around so
@@ -253,7 +342,7 @@ pub fn largest(case: Case) -> Result<u64, Difference> {
         bytes: &image[..DOMAIN],
         ..case
     };
-    let walk = compare(domain.bytes, lent).map_err(|finding| domain.differs(finding))?;
+    let (walk, _) = compare(domain.bytes, lent).map_err(|finding| domain.differs(finding))?;
     let above = Case {
         number: case.number + 1,
         kind: "above the domain",

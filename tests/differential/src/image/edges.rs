@@ -1,6 +1,8 @@
 //! The exhaustive entries and images: groups of numbers at which the carver decides, all combinations within a group. A
-//! name stands where the carver comes to if it decides otherwise, so that what it carves shows its way.
+//! name stands where the carver comes to if it decides otherwise, so that what it carves shows its way. Every entry is
+//! stored with a sound array; those of which the array decides are in `arrays`.
 
+use super::arrays;
 use super::layout::{
     sound, Entry, Name, CONTENT_OFFSET, CONTENT_SIZE, END, ENTRY, FILE_NAME, FIRST, FLAGS, LENGTH, NAME, NAMESPACE,
     NON_RESIDENT, NUMBER, RESIDENT, SEQUENCE, UNITS,
@@ -36,6 +38,7 @@ pub fn entries() -> Vec<Input> {
     namespaces(&mut push);
     overlaps(&mut push);
     single_bits(&mut push);
+    arrays::entries(&mut push);
     inputs
 }
 
@@ -65,7 +68,7 @@ pub fn images() -> Vec<Input> {
 }
 
 /// Takes an entry of a kind.
-type Push<'a> = dyn FnMut(&'static str, Vec<u8>) + 'a;
+pub type Push<'a> = dyn FnMut(&'static str, Vec<u8>) + 'a;
 
 /// An entry with one name, and the offset of its attribute.
 fn named(filler: u8) -> (Entry, usize) {
@@ -144,7 +147,7 @@ fn name_attribute_lengths(push: &mut Push) {
     for length in (0..=ENTRY - FIRST + 2).chain([0x1_0000 + 96, 0xffff_fff8, 0xffff_ffff]) {
         let (mut entry, at) = named(0);
         entry.put(at + LENGTH, 4, length as u64);
-        push("length of the name's attribute", entry.bytes);
+        push("length of the name's attribute", entry.stored());
     }
 }
 
@@ -171,7 +174,7 @@ fn content_offsets(push: &mut Push) {
                 entry.put(at + CONTENT_OFFSET, 2, offset as u64);
                 let hidden = RESIDENT.saturating_sub(offset);
                 entry.lay(at + offset + hidden, &Name::of(3, 1).content()[hidden..]);
-                push("content offset", entry.bytes);
+                push("content offset", entry.stored());
             }
         }
     }
@@ -205,7 +208,7 @@ fn names_at_the_end(push: &mut Push) {
                     entry.put(at + CONTENT_OFFSET, 2, content_offset as u64);
                     let hidden = RESIDENT.saturating_sub(content_offset);
                     entry.lay(at + content_offset + hidden, &Name::of(units, 1).content()[hidden..]);
-                    push("name at the end", entry.bytes);
+                    push("name at the end", entry.stored());
                 }
             }
         }
@@ -228,7 +231,7 @@ fn flags_of_residence(push: &mut Push) {
                 entry.next = at;
                 entry.put(at, 4, FILE_NAME);
                 entry.put(at + LENGTH, 4, length as u64);
-                push("attribute at the end", entry.bytes);
+                push("attribute at the end", entry.stored());
             }
         }
     }

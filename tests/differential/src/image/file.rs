@@ -1,6 +1,6 @@
-//! An image in a file, a volume's for instance, carved by the Rust and by ours.
+//! An image in a file, a volume's for instance, carved by ours and, restored, by the Rust.
 
-use super::comparison::{compare, every_lent};
+use super::comparison::{compare, every_lent, Met};
 use super::exhaustive_case;
 use std::fs;
 
@@ -8,12 +8,16 @@ use std::fs;
 /// it fails too.
 pub fn run(path: &str) -> Result<(), String> {
     let bytes = fs::read(path).map_err(|error| format!("{path}: {error}"))?;
-    let walk = compare(&bytes, |entries| every_lent(bytes.len(), entries))
+    let (walk, met) = compare(&bytes, |entries| every_lent(bytes.len(), entries))
         .map_err(|finding| format!("{path}: {}", exhaustive_case(0, "a file", &bytes).differs(finding)))?;
     let [scanned, candidates, carved, rejected] = walk.counters;
     if carved == 0 {
         return Err(format!("{path}: {scanned} bytes, nothing is carved"));
     }
-    println!("{path}: {scanned} bytes, {candidates} candidates, {carved} carved, {rejected} rejected, no difference");
+    let Met { unsound, names, .. } = met;
+    println!(
+        "{path}: {scanned} bytes, {candidates} candidates, {carved} carved, {names} of them with another name than is \
+         stored, {rejected} rejected, {unsound} with an array that fails a test, no difference"
+    );
     Ok(())
 }

@@ -1,6 +1,7 @@
 //! The images that the scope knows by name, with what it says of each.
 
-use super::layout::{sound, Entry, Name, ENTRY, FIRST, FIRST_ATTRIBUTE};
+use super::arrays::with_array;
+use super::layout::{sound, Entry, Name, ARRAY, ENTRY, FIRST};
 
 /// An image of one entry at most, and the units of the name that is carved from it; none where nothing is.
 pub struct Known {
@@ -10,7 +11,8 @@ pub struct Known {
     pub rejected: u64,
 }
 
-/// P7, P8, the image of 1023 bytes, and the name in the 21st attribute.
+/// P7, also with arrays that pass the first attribute and that do not, P8, the image of 1023 bytes, and the name in the
+/// 21st attribute.
 pub fn cases() -> Vec<Known> {
     let known = |name, bytes, carved: Option<u64>| Known {
         name,
@@ -18,11 +20,10 @@ pub fn cases() -> Vec<Known> {
         carved,
         rejected: u64::from(carved.is_none()),
     };
-    let first = |first: usize| {
+    let first = |first: usize, array: usize| {
         let mut entry = Entry::new(first, 0);
         entry.name(&Name::of(1, 1));
-        entry.put(FIRST_ATTRIBUTE, 2, first as u64);
-        entry.ended()
+        with_array(entry.end(), array)
     };
     // Names of one and of two units, so that the units tell which is kept.
     let kept = |namespaces: [u8; 2]| {
@@ -47,9 +48,11 @@ pub fn cases() -> Vec<Known> {
             carved: None,
             rejected: 0,
         },
-        known("P7, first attribute at 47", first(47), None),
-        known("P7, first attribute at 48", first(48), Some(1)),
-        known("P7, first attribute at 1016", first(1016), None),
+        known("P7, first attribute at 47", first(47, ARRAY), None),
+        known("P7, first attribute at 47, behind an array", first(47, 40), None),
+        known("first attribute at 53, which the array passes", first(53, ARRAY), None),
+        known("first attribute at 54, behind the array", first(54, ARRAY), Some(1)),
+        known("P7, first attribute at 1016", first(1016, ARRAY), None),
         known("P8, namespaces 2, 3", kept([2, 3]), Some(2)),
         known("P8, namespaces 1, 3", kept([1, 3]), Some(1)),
         known("P8, namespaces 0, 2", kept([0, 2]), Some(1)),

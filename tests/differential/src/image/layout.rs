@@ -7,7 +7,13 @@ pub const ENTRY: usize = 1024;
 /// The first four bytes of an entry.
 pub const SIGNATURE: [u8; 4] = *b"FILE";
 
-// Offsets in an entry.
+/// The bytes of a sector, and where the ends of an entry's sectors stand, two bytes each.
+pub const SECTOR: usize = 512;
+pub const SECTOR_ENDS: [usize; ENTRY / SECTOR] = [510, 1022];
+
+// Offsets in an entry. The first two are the update sequence array's offset and how many numbers of two bytes it has.
+pub const ARRAY_OFFSET: usize = 4;
+pub const ARRAY_COUNT: usize = 6;
 pub const SEQUENCE: usize = 16;
 pub const FIRST_ATTRIBUTE: usize = 20;
 pub const FLAGS: usize = 22;
@@ -37,6 +43,15 @@ pub const NAME: usize = 66;
 
 /// Where the first attribute of an entry mostly stands.
 pub const FIRST: usize = 56;
+
+/// Where the update sequence array mostly stands, its numbers (the check value and the true end of each sector), and its
+/// bytes.
+pub const ARRAY: usize = 48;
+pub const NUMBERS: usize = 1 + SECTOR_ENDS.len();
+pub const ARRAY_BYTES: usize = 2 * NUMBERS;
+
+/// The check value of most entries: no letter of a name, no type and no length of an attribute.
+pub const CHECK: u16 = 0xa55a;
 
 /// A name, with the parent and the namespace.
 #[derive(Debug, Clone)]
@@ -72,22 +87,35 @@ impl Name {
     }
 }
 
-/// An entry while it is written. What does not lie inside is not written.
+/// An entry while it is written, with the true ends of its sectors. What does not lie inside is not written.
 #[derive(Debug, Clone)]
 pub struct Entry {
     pub bytes: Vec<u8>,
     /// Where the next attribute stands.
     pub next: usize,
+    /// Where the update sequence array is written when the entry is stored, and its check value.
+    pub array: usize,
+    pub check: u16,
 }
 
 impl Entry {
+    /// An entry of these bytes.
+    pub fn of(bytes: Vec<u8>) -> Self {
+        Self {
+            bytes,
+            next: 0,
+            array: ARRAY,
+            check: CHECK,
+        }
+    }
+
     /// Entry 42:3 in use, without attributes; the first one stands at `first`. Bytes of no meaning are `filler`.
     pub fn new(first: usize, filler: u8) -> Self {
-        let mut entry = Self {
-            bytes: vec![filler; ENTRY],
-            next: first,
-        };
+        let mut entry = Self::of(vec![filler; ENTRY]);
+        entry.next = first;
         entry.lay(0, &SIGNATURE);
+        entry.array_at(ARRAY);
+        entry.put(ARRAY_COUNT, 2, NUMBERS as u64);
         entry.put(SEQUENCE, 2, 3);
         entry.put(FIRST_ATTRIBUTE, 2, first as u64);
         entry.put(FLAGS, 2, IN_USE);
@@ -133,14 +161,47 @@ impl Entry {
         at
     }
 
-    /// The entry with the end behind its attributes.
-    pub fn ended(mut self) -> Vec<u8> {
+    /// Appends an attribute with a name that it just holds; gives its offset.
+    pub fn fitting_name(&mut self, name: &Name) -> usize {
+        let at = self.name(name);
+        self.put(at + LENGTH, 4, name.attribute_length() as u64);
+        self.next = at + name.attribute_length();
+        at
+    }
+
+    /// Has the update sequence array written at an offset, and says so in the header.
+    pub fn array_at(&mut self, offset: usize) {
+        self.array = offset;
+        self.put(ARRAY_OFFSET, 2, offset as u64);
+    }
+
+    /// Puts the end behind the attributes.
+    pub fn end(mut self) -> Self {
         self.put(self.next, 4, END);
+        self
+    }
+
+    /// The entry as a volume stores it: the true ends of the sectors in the array, and the check value in their place.
+    pub fn stored(mut self) -> Vec<u8> {
+        let ends = SECTOR_ENDS.map(|at| [self.bytes[at], self.bytes[at + 1]]);
+        self.put(self.array, 2, self.check.into());
+        for (number, end) in (1..).zip(ends) {
+            self.lay(self.array + 2 * number, &end);
+        }
+        for at in SECTOR_ENDS {
+            self.put(at, 2, self.check.into());
+        }
         self.bytes
+    }
+
+    /// The entry with the end behind its attributes, as it is stored.
+    pub fn ended(self) -> Vec<u8> {
+        self.end().stored()
     }
 }
 
-/// An entry that is carved: standard information, a short and a long name, and data.
+/// An entry that is carved: standard information, a short and a long name, and data. The true ends of its sectors are
+/// zeros, which are not stored there.
 pub fn sound() -> Vec<u8> {
     let mut entry = Entry::new(FIRST, 0);
     entry.attribute(0x10, 96);

@@ -1,18 +1,22 @@
 //! Images: the carver of MFT entries, `carve.rs` of the original, against the library's. The subject is `image`.
 
+pub mod arrays;
 pub mod cases;
 mod comparison;
 mod edges;
+pub mod ends;
 pub mod file;
 mod known;
 pub mod layout;
+pub mod restored;
 pub mod sample;
 pub mod walk;
 
 use crate::difference::{Case, Difference, Finding, Outcome};
 use crate::random::Random;
 use crate::Run;
-use comparison::{compare, every_lent, largest, some_lent};
+use arrays::as_stored;
+use comparison::{compare, every_lent, largest, some_lent, Met};
 use known::Known;
 use layout::{sound, ENTRY};
 
@@ -26,6 +30,7 @@ pub fn run(run: &Run) -> Outcome {
     let exhaustive = exhaustive()?;
     println!("{SUBJECT}: {exhaustive} exhaustive cases, no difference");
     let (mut entries, mut images, mut carved) = (0, 0, 0);
+    let mut met = Met::default();
     let mut bytes = Vec::new();
     while entries < run.cases {
         let mut random = Random::of_case(run.seed, STREAM, images);
@@ -36,16 +41,27 @@ pub fn run(run: &Run) -> Outcome {
         };
         let lent = |found| some_lent(bytes.len(), found, &mut random);
         let again = |bytes: &[u8]| compare(bytes, |found| every_lent(bytes.len(), found)).err();
-        let walk = compare(&bytes, lent).map_err(|finding| case.smallest(finding, again))?;
+        let (walk, of_image) = compare(&bytes, lent).map_err(|finding| case.smallest(finding, again))?;
+        met += of_image;
         carved += walk.entries.len();
         entries += written;
         images += 1;
     }
+    let Met {
+        unsound,
+        as_stored,
+        restored,
+        names,
+    } = met;
     println!(
-        "{SUBJECT}: {images} cases, {entries} entries, {carved} carved, seed {}, no difference",
+        "{SUBJECT}: {images} cases, {entries} entries, {carved} carved, {restored} of them restored and {names} with \
+         another name than is stored, {as_stored} candidates with true ends as stored, {unsound} with an array that \
+         fails a test, seed {}, no difference",
         run.seed
     );
-    Ok(())
+    run.met(SUBJECT, "a name that restoring changes", names)?;
+    run.met(SUBJECT, "true ends as stored", as_stored)?;
+    run.met(SUBJECT, "an array that fails a test", unsound)
 }
 
 /// An input of the fuzzer.
@@ -68,7 +84,8 @@ fn exhaustive_case<'a>(number: u64, kind: &'static str, bytes: &'a [u8]) -> Case
 }
 
 /// The images that the scope names, the exhaustive ones, and those at the domain's end; how many they are. An
-/// exhaustive entry stands between two sound ones, so that what is read outside of it shows.
+/// exhaustive entry stands between two sound ones, so that what is read outside of it shows; where its true ends are
+/// alike, once more with these stored, between two that have theirs stored too.
 fn exhaustive() -> Result<u64, Difference> {
     let mut number = 0;
     for known in known::cases() {
@@ -86,16 +103,21 @@ fn exhaustive() -> Result<u64, Difference> {
         each(image.kind, &image.bytes)?;
     }
     let mut between = sound().repeat(3);
+    let mut alike = as_stored(&sound()).expect("its true ends are alike").repeat(3);
     for entry in edges::entries() {
         between[ENTRY..2 * ENTRY].copy_from_slice(&entry.bytes);
         each(entry.kind, &between)?;
+        if let Some(bytes) = as_stored(&entry.bytes) {
+            alike[ENTRY..2 * ENTRY].copy_from_slice(&bytes);
+            each(entry.kind, &alike)?;
+        }
     }
     Ok(number + largest(exhaustive_case(number, "", &[]))?)
 }
 
 /// An image that the scope names, with the answer that it gives.
 fn compare_known(known: &Known) -> Result<(), Finding> {
-    let walk = compare(&known.bytes, |entries| every_lent(known.bytes.len(), entries))?;
+    let (walk, _) = compare(&known.bytes, |entries| every_lent(known.bytes.len(), entries))?;
     let units: Vec<u64> = walk.entries.iter().map(|words| words[4] / 2).collect();
     let carved: Vec<u64> = known.carved.into_iter().collect();
     if units == carved && walk.counters[3] == known.rejected {

@@ -1,7 +1,9 @@
 //! What is recorded of images and names, with the Rust's answers to them: of an image a line with the counters and a line
-//! for each entry, of a name a line with its text in hexadecimal.
+//! for each entry, of a name a line with its text in hexadecimal. The image is recorded as it is stored; the Rust carves
+//! its restored copy.
 
 use super::layout::ENTRY;
+use super::restored::restored;
 use super::{cases, edges, known};
 use crate::carve::carve_mft_entries;
 use crate::names::cases::{bytes_of, fill, BOUNDARIES, KNOWN};
@@ -16,12 +18,12 @@ const CASES: u64 = 2;
 const NAMES: u64 = 3;
 
 /// How many images and names are recorded, beside the cut of a volume, which is the last input.
-const IMAGES: usize = 50;
+const IMAGES: usize = 72;
 const RECORDED_NAMES: usize = 60;
 
 /// The kinds of exhaustive entries of which some are taken, beside all images that the scope names; random ones make up
 /// the rest.
-const EXHAUSTIVE: [&str; 17] = [
+const EXHAUSTIVE: [&str; 24] = [
     "first attribute",
     "sequence",
     "flags",
@@ -39,6 +41,13 @@ const EXHAUSTIVE: [&str; 17] = [
     "many attributes",
     "namespaces",
     "attribute in a content",
+    "array count",
+    "array offset",
+    "stored sector end",
+    "check value",
+    "name at a sector end",
+    "attribute at a sector end",
+    "true sector end in an attribute",
 ];
 
 /// The longest image that is recorded, and the shortest random one.
@@ -75,7 +84,7 @@ fn exhaustive(sample: &mut Sample) {
         let mut random = Random::of_case(SEED, EDGES, number);
         let of_kind = entries.iter().filter(|entry| entry.kind == kind);
         let (rejected, carved): (Vec<_>, Vec<_>) =
-            of_kind.partition(|entry| carve_mft_entries(&entry.bytes).0.is_empty());
+            of_kind.partition(|entry| carve_mft_entries(&restored(&entry.bytes).bytes).0.is_empty());
         for drawn in [carved, rejected] {
             if !drawn.is_empty() {
                 sample.image(&random.pick(&drawn).bytes);
@@ -115,11 +124,11 @@ fn names(sample: &mut Sample) {
 }
 
 impl Sample<'_> {
-    /// Adds an image with the Rust's entries and counters.
+    /// Adds an image with the entries and counters that the Rust has of its restored copy.
     fn image(&mut self, bytes: &[u8]) {
         self.images += 1;
         self.recording.input(Kind::Entries, bytes);
-        let (entries, stats) = carve_mft_entries(bytes);
+        let (entries, stats) = carve_mft_entries(&restored(bytes).bytes);
         self.recording.line(&format!(
             "entries {} candidates {} rejected {} bytes {}",
             stats.entries_carved, stats.candidates_examined, stats.rejected, stats.bytes_scanned

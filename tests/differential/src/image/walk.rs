@@ -1,12 +1,12 @@
 //! The scope's walk over an image: the entries that are carved, and the counters. It is written from the document,
 //! apart from the original and from our library, so that a mistake in one is not repeated here. The Rust tells no
-//! places; the names' places are those of this walk.
+//! places; the names' places are those of this walk, in the image as it is stored.
 
 use super::layout::{
-    CONTENT_OFFSET, CONTENT_SIZE, DIRECTORY, END, ENTRY, FILE_NAME, FIRST_ATTRIBUTE, FLAGS, IN_USE, LENGTH, NAME,
-    NAMESPACE, NON_RESIDENT, NUMBER, SEQUENCE, SIGNATURE, UNITS,
+    ARRAY_COUNT, ARRAY_OFFSET, CONTENT_OFFSET, CONTENT_SIZE, DIRECTORY, END, ENTRY, FILE_NAME, FIRST_ATTRIBUTE, FLAGS,
+    IN_USE, LENGTH, NAME, NAMESPACE, NON_RESIDENT, NUMBER, SECTOR, SEQUENCE, SIGNATURE, UNITS,
 };
-use crate::library::{ENTRY_WORDS, MFT_CARVING_FIELDS};
+use crate::library::{ENTRY_NAME, ENTRY_WORDS, MFT_CARVING_FIELDS};
 use crate::records::layout::number;
 
 /// The most attributes that are walked.
@@ -50,6 +50,7 @@ fn carved(entry: &[u8], base: usize) -> Option<Entry> {
     if sequence == 0 || !(48..=1015).contains(&first) {
         return None;
     }
+    let entry = &restored(entry)?[..];
     let names = attributes(entry, first)
         .into_iter()
         .filter_map(|(at, length)| name(entry, at, length));
@@ -73,6 +74,36 @@ fn carved(entry: &[u8], base: usize) -> Option<Entry> {
         u64::from(flags & DIRECTORY != 0),
         u64::from(flags & IN_USE != 0),
     ])
+}
+
+/// The entry with the true ends of its sectors, which stand in the update sequence array behind the check value; none where
+/// the array fails a test.
+fn restored(entry: &[u8]) -> Option<Vec<u8>> {
+    let offset = read(entry, ARRAY_OFFSET, 2) as usize;
+    let count = read(entry, ARRAY_COUNT, 2) as usize;
+    let first = read(entry, FIRST_ATTRIBUTE, 2) as usize;
+    let sectors = entry.len() / SECTOR;
+    let end = offset + 2 * count;
+    if count != sectors + 1 || offset % 2 == 1 || offset < 48 || end > first || end > SECTOR - 2 {
+        return None;
+    }
+    let check = read(entry, offset, 2);
+    let mut restored = entry.to_vec();
+    for sector in 1..=sectors {
+        let (at, saved) = (SECTOR * sector - 2, offset + 2 * sector);
+        if read(entry, at, 2) != check {
+            return None;
+        }
+        restored[at..at + 2].copy_from_slice(&entry[saved..saved + 2]);
+    }
+    Some(restored)
+}
+
+/// The bytes of a carved entry's name, which are those of the restored entry.
+pub fn name_bytes(image: &[u8], words: &Entry) -> Vec<u8> {
+    let [base, offset, length] = [words[0], words[ENTRY_NAME], words[ENTRY_NAME + 1]].map(|word| word as usize);
+    let entry = restored(&image[base..base + ENTRY]).expect("a carved entry has a sound array");
+    entry[offset - base..offset - base + length].to_vec()
 }
 
 /// The attributes that are walked, by offset and length.

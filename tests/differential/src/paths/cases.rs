@@ -5,7 +5,9 @@ use super::library::{Key, Place, Sources};
 use super::model::Slot;
 use crate::carve::{carve_mft_entries, CarvedMftEntry};
 use crate::image::cases as images;
-use crate::image::layout::{Entry, Name, ENTRY, FIRST, FLAGS, NUMBER, SEQUENCE};
+use crate::image::ends::{name_at_a_sector_end, stored};
+use crate::image::layout::{Entry, Name, ENTRY, FIRST, FIRST_ATTRIBUTE, FLAGS, NUMBER, SECTOR, SEQUENCE};
+use crate::image::restored::restored;
 use crate::library::{mft_carve_entries, ACCEPTED, ENTRY_WORDS, MFT_CARVING_FIELDS};
 use crate::names::cases::unit;
 use crate::random::Random;
@@ -70,14 +72,18 @@ impl World {
             cyclic,
         };
         match random.below(8) {
-            0 | 1 => {
+            0..=3 => {
                 for _ in 0..random.between(1, 5) {
                     let entry = world.entry(random);
                     world.image.extend(entry);
                 }
+                if random.one_in(4) {
+                    let entry = world.entry(random);
+                    world.image.extend(&entry[..random.below(ENTRY)]);
+                }
                 world.carved = carve(&world.image);
             }
-            2 => {
+            4 => {
                 images::fill(random, &mut world.image);
                 world.carved = carve(&world.image);
             }
@@ -154,19 +160,37 @@ impl World {
         }
     }
 
-    /// An MFT entry with one of the keys, as far as its fields hold them.
+    /// An MFT entry with one of the keys, as far as its fields hold them, its name as often as not at a sector's end. Now
+    /// and then it is none that is carved, whose places are decoded all the same: by the array alone where it begins FILE.
     fn entry(&self, random: &mut Random) -> Vec<u8> {
         let [key, parent] = self.keys(random);
         let mut entry = Entry::new(FIRST, 0);
         entry.put(SEQUENCE, 2, key[1]);
         entry.put(FLAGS, 2, random.number() % 4);
         entry.put(NUMBER, 4, key[0]);
-        entry.name(&Name {
+        let name = Name {
             parent: (parent[0] % (1 << 48)) | (parent[1] << 48),
             namespace: random.pick(&[1, 1, 3, 0, 2]),
             units: (0..random.between(1, LONGEST)).map(|_| unit(random)).collect(),
-        });
-        entry.ended()
+        };
+        match random.one_in(2) {
+            true => name_at_a_sector_end(random, &mut entry, &name),
+            false => {
+                entry.name(&name);
+            }
+        }
+        let mut entry = entry.end();
+        // What the names do not fill; it is decoded too.
+        for at in (entry.next + 4..ENTRY).step_by(8) {
+            entry.put(at, 8, random.number());
+        }
+        match random.below(24) {
+            0 => entry.put(SEQUENCE, 2, 0),
+            1 => entry.put(FIRST_ATTRIBUTE, 2, random.pick(&[1016, 1017, 2048, 65535])),
+            2 => entry.lay(random.below(4), b"X"),
+            _ => {}
+        }
+        stored(random, entry)
     }
 }
 
@@ -194,12 +218,12 @@ fn bytes(random: &mut Random, most: usize) -> Vec<u8> {
     bytes
 }
 
-/// A place in a slice of this length, often at its end, and one in `outside` times past it.
+/// A place in a slice of this length, often at its end, in an image as often as not at a sector's end; one in `outside`
+/// times past it.
 pub fn in_slice(random: &mut Random, source: u64, slice: usize, outside: usize) -> Place {
-    let length = random.below(2 * LONGEST).min(slice);
-    let offset = match random.below(8) {
-        0 => slice - length,
-        _ => random.below(slice - length + 1),
+    let (offset, length) = match source != 0 && slice >= SECTOR && random.one_in(2) {
+        true => at_a_sector_end(random, slice),
+        false => inside(random, slice),
     };
     let [offset, length, slice] = [offset, length, slice].map(|number| number as u64);
     if !random.one_in(outside) {
@@ -215,13 +239,31 @@ pub fn in_slice(random: &mut Random, source: u64, slice: usize, outside: usize) 
     }
 }
 
-/// The entries carved from an image, by ours and by the Rust.
+fn inside(random: &mut Random, slice: usize) -> (usize, usize) {
+    let length = random.below(2 * LONGEST).min(slice);
+    let offset = match random.below(8) {
+        0 => slice - length,
+        _ => random.below(slice - length + 1),
+    };
+    (offset, length)
+}
+
+/// Offset and length of a place that ends just before the last two bytes of a sector, with one of them or with both, lies
+/// over them, also on into the next sector or entry, or begins at or just behind them.
+fn at_a_sector_end(random: &mut Random, slice: usize) -> (usize, usize) {
+    let next = SECTOR * random.between(1, slice / SECTOR);
+    let length = random.below(2 * LONGEST);
+    let offset = (next + 1 - random.below(length + 4)).min(slice);
+    (offset, length.min(slice - offset))
+}
+
+/// The entries carved from an image, by ours and, from its restored copy, by the Rust.
 pub fn carve(image: &[u8]) -> Carved {
     let mut entries = vec![0; ENTRY_WORDS * (image.len() / ENTRY)];
     let mut out = [0; MFT_CARVING_FIELDS.len()];
     let number = mft_carve_entries(image, &mut entries, &mut out);
     assert_eq!(number, ACCEPTED, "an image is carved with room for every entry");
     entries.truncate(ENTRY_WORDS * out[2] as usize);
-    let (rust, _) = carve_mft_entries(image);
+    let (rust, _) = carve_mft_entries(&restored(image).bytes);
     Carved { entries, rust }
 }

@@ -8,10 +8,12 @@ pub mod library;
 pub mod lists;
 pub mod model;
 pub mod pair;
-mod places;
+pub mod places;
 pub mod programs;
 mod refusals;
 pub mod sample;
+mod sector_ends;
+mod sectors;
 
 use crate::difference::{Case, Difference, Finding, Outcome};
 use crate::library::DOMAIN;
@@ -50,7 +52,12 @@ pub fn run(run: &Run) -> Outcome {
         })?;
     }
     println!("{SUBJECT}: {programs} cases, {made}, seed {}, no difference", run.seed);
-    Ok(())
+    run.met(
+        SUBJECT,
+        "a path with a name that restoring changes",
+        made.restored_names,
+    )?;
+    run.met(SUBJECT, "a stored place that restoring changes", made.restored_places)
 }
 
 fn exhaustive_case(number: u64, kind: &'static str) -> Case<'static> {
@@ -81,6 +88,10 @@ fn exhaustive(above: &[u8]) -> Result<u64, Difference> {
     group("like keys", edges::like_keys(letters))?;
     group("digits", edges::digits(letters))?;
     group("places", refusals::places())?;
+    group("sector ends", sector_ends::places())?;
+    group("carved names at sector ends", sector_ends::carved())?;
+    group("cut entries", sector_ends::cut())?;
+    group("arrays", sector_ends::arrays())?;
     group("refused additions", refusals::additions(letters, above))?;
     group("refused paths", refusals::paths(letters, above))?;
     group("domain", refusals::domain(above))?;

@@ -2,6 +2,7 @@
 //! that a mistake in one is not repeated here. The Rust tells neither places nor slots; those compared are from here.
 
 use super::library::{Key, Place, Sources, CHAIN_WORDS, ROOT, SLOT_WORDS, UNKNOWN, UNRESOLVED};
+use super::sectors::true_bytes;
 use crate::library::{ABOVE_DOMAIN, BAD_NUMBERS, DOMAIN, ENTRY_NAME, ENTRY_WORDS, NAME_OUTSIDE, TABLE_FULL};
 use crate::names::comparison::text;
 use std::collections::HashSet;
@@ -60,16 +61,31 @@ pub fn carved(entries: &[u64]) -> Vec<Slot> {
         .collect()
 }
 
-/// The bytes at a place; none where it passes its slice.
+/// The bytes at a place, as they are; none where it passes its slice.
 pub fn bytes_at<'a>(names: Sources<'a>, [source, offset, length]: Place) -> Option<&'a [u8]> {
     let slice = if source == 0 { names.journal } else { names.image };
     let end = offset.checked_add(length).filter(|&end| end <= slice.len() as u64)?;
     Some(&slice[offset as usize..end as usize])
 }
 
+/// The bytes that a place is decoded from: those of the journal as they are, those of the image with the true sector ends
+/// of the entry around them, where it has them. None where the place passes its slice.
+pub fn decoded_bytes(names: Sources, place: Place) -> Option<Vec<u8>> {
+    let bytes = bytes_at(names, place)?;
+    Some(match place {
+        [0, ..] => bytes.to_vec(),
+        [_, offset, length] => true_bytes(names.image, offset as usize, length as usize),
+    })
+}
+
+/// A place inside whose bytes are decoded as others than they are.
+pub fn restored(names: Sources, place: Place) -> bool {
+    bytes_at(names, place) != decoded_bytes(names, place).as_deref()
+}
+
 /// The text of the name at a place inside.
 pub fn name(names: Sources, place: Place) -> String {
-    text(bytes_at(names, place).expect("the name's place lies inside"))
+    text(&decoded_bytes(names, place).expect("the name's place lies inside"))
 }
 
 /// A slice is above the domain.

@@ -7,7 +7,7 @@ use super::library::{
     Key, Slots, Sources, CHAIN_WORDS, PATH_FIELDS, SLOT_FIELDS, SLOT_WORDS, TABLE_FIELDS,
 };
 use super::lists::{word_against, Lists, Room, Written};
-use super::model::{self, bytes_at, carved, key, parent, place, Chain, Slot, Table};
+use super::model::{self, carved, decoded_bytes, key, parent, place, Chain, Slot, Table};
 use crate::carve::CarvedMftEntry;
 use crate::declared::{self, Place};
 use crate::difference::Finding;
@@ -35,7 +35,7 @@ pub enum Added<'a> {
         slot: Slot,
         replace: bool,
     },
-    /// A list of carved entries, with those that the Rust's carver gave, where it is carved.
+    /// A list of carved entries, with those that the Rust's carver gave of the restored copy, where it is carved.
     Listed {
         entries: &'a [u64],
         rust: Option<&'a [CarvedMftEntry]>,
@@ -265,7 +265,8 @@ impl<'a> Pair<'a> {
         Some(format!("{field} of slot {slot} is {}, not {word}", self.slots[at]))
     }
 
-    /// The scope's path of a key, which is the Rust's where the table is as the Rust has it.
+    /// The scope's path of a key, whose chain, with the table's own names, is the Rust's where the table is as the Rust has
+    /// it. A slice that is cut may have other names: an entry that is not whole is decoded as it is.
     pub fn ask<'b>(&self, given: Given<'b>, key: Key) -> Result<Question<'b>, Finding> {
         let chain = self.model.chain(given.names, given.used, key);
         let told = chain.map(|chain| Told {
@@ -278,12 +279,13 @@ impl<'a> Pair<'a> {
         };
         if given.used == self.used {
             let path = rust.resolve_path(&asked);
-            if path != told.text {
+            let own = told.chain.text(self.names);
+            if path != own {
                 return Err(Finding {
                     call: format!("resolve_path of {key:?}"),
                     what: "the scope's path is not the Rust's".to_string(),
                     rust: format!("{path:?}"),
-                    ours: format!("the scope: {:?}, {}", told.text, shown(&self.model, self.used)),
+                    ours: format!("the scope: {own:?}, {}", shown(&self.model, self.used)),
                 });
             }
         }
@@ -402,7 +404,9 @@ pub fn add(rust: &mut RewindEngine, names: Sources, slot: &Slot, replace: bool) 
         return false;
     };
     // A place may lie outside, since calls are handed other slices too; no path is told while it does.
-    let name = bytes_at(names, place(slot)).map(text).unwrap_or_default();
+    let name = decoded_bytes(names, place(slot))
+        .map(|bytes| text(&bytes))
+        .unwrap_or_default();
     match replace {
         true => rust.insert(key, EntryInfo { name, parent }),
         false => rust.seed_from_carved(&[CarvedMftEntry {

@@ -1,7 +1,7 @@
 //! `path_decode` held against the Rust: the number answered, the text at a place, its length, and what is left alone.
 
 use super::library::{path_decode, Place, Sources};
-use super::model::{above_domain, bytes_at};
+use super::model::{above_domain, decoded_bytes};
 use crate::difference::Finding;
 use crate::lent::{beginning, untouched, BEHIND};
 use crate::library::{ABOVE_DOMAIN, ACCEPTED, NAME_OUTSIDE, NO_ROOM, TEXT_TOO_SMALL};
@@ -15,7 +15,7 @@ fn decoded(names: Sources, place: Place, room: Room) -> Result<String, u32> {
     if room.out < OUT {
         return Err(NO_ROOM);
     }
-    let text = text(bytes_at(names, place).ok_or(NAME_OUTSIDE)?);
+    let text = text(&decoded_bytes(names, place).ok_or(NAME_OUTSIDE)?);
     if text.len() > room.text {
         return Err(TEXT_TOO_SMALL);
     }
@@ -24,7 +24,7 @@ fn decoded(names: Sources, place: Place, room: Room) -> Result<String, u32> {
 
 /// How many bytes of text a place has; none where it passes its slice.
 pub fn length(names: Sources, place: Place) -> usize {
-    bytes_at(names, place).map_or(0, |bytes| text(bytes).len())
+    decoded_bytes(names, place).map_or(0, |bytes| text(&bytes).len())
 }
 
 /// Calls our decoder with each room, and holds every answer to the scope and to the Rust's text.

@@ -4,7 +4,7 @@ use super::cases::World;
 use super::edges::{ladder, listed, some_rooms, step};
 use super::library::{Key, Sources, CHAIN_WORDS, SLOT_WORDS};
 use super::lists::Room;
-use super::model::{key, parent, End};
+use super::model::{key, parent, restored, End};
 use super::pair::{Added, Given, Pair, Question, STORED, TOLD};
 use super::places;
 use crate::difference::Finding;
@@ -45,9 +45,12 @@ const OUTS: [usize; 16] = [
 /// The names of a ladder: about as many as are followed.
 const LADDER: [usize; 2] = [250, 262];
 
-/// How many calls the programs made: additions accepted and refused, and paths by their end or refused.
+/// How many calls the programs made: additions accepted and refused, and paths by their end or refused; and how many names
+/// of paths and stored places were decoded as others than the bytes that are stored.
 #[derive(Default)]
 pub struct Made {
+    pub restored_names: u64,
+    pub restored_places: u64,
     stored: u64,
     stored_refused: u64,
     root: u64,
@@ -60,8 +63,16 @@ impl fmt::Display for Made {
     fn fmt(&self, f: &mut fmt::Formatter<'_>) -> fmt::Result {
         write!(
             f,
-            "{} additions and {} refused, paths: {} to the root, {} unknown, {} unresolved, {} refused",
-            self.stored, self.stored_refused, self.root, self.unknown, self.unresolved, self.paths_refused
+            "{} additions and {} refused, paths: {} to the root, {} unknown, {} unresolved, {} refused, changed by \
+             restoring: {} names of paths, {} stored places",
+            self.stored,
+            self.stored_refused,
+            self.root,
+            self.unknown,
+            self.unresolved,
+            self.paths_refused,
+            self.restored_names,
+            self.restored_places
         )
     }
 }
@@ -170,6 +181,10 @@ impl<'a> Program<'a> {
         let any = self.any_room(full, CHAIN_WORDS);
         self.pair.chain(&question, any)?;
         let made = &mut *self.made;
+        if let Ok(told) = &question.told {
+            let changed = told.chain.places.iter().filter(|&&place| restored(given.names, place));
+            made.restored_names += changed.count() as u64;
+        }
         *match question.told.map(|told| told.chain.end) {
             Ok(End::Root) => &mut made.root,
             Ok(End::Unknown(_)) => &mut made.unknown,
@@ -199,6 +214,7 @@ impl<'a> Program<'a> {
         let place = self.world.place(self.random, 8);
         let names = self.given().names;
         let length = places::length(names, place);
+        self.made.restored_places += u64::from(restored(names, place));
         let room = |text, out| decoding::Room { text, out };
         let any = room(length + self.random.below(5), self.random.pick(&[OUT, OUT, OUT + 2, 0]));
         places::compare(

@@ -17,8 +17,8 @@ use crate::rewind::RewindEngine;
 const SEED: u64 = 20_261_117;
 const PROGRAMS: u64 = 1;
 
-/// How many random programs are recorded, and how many calls each has.
-const RECORDED: usize = 16;
+/// How many random programs are recorded, every other one with an entry in its image, and how many calls each has.
+const RECORDED: usize = 24;
 const CALLS: usize = 24;
 
 /// The longest image of a random program.
@@ -64,7 +64,8 @@ fn random(recording: &mut Recording) {
     for number in 0.. {
         let mut random = Random::of_case(SEED, PROGRAMS, number);
         let world = World::new(&mut random);
-        let short = world.image.len() <= LONGEST_IMAGE;
+        let least = ENTRY * (programs % 2);
+        let short = (least..=LONGEST_IMAGE).contains(&world.image.len());
         if short && world.keys.iter().all(|&key| rust_key(key).is_some()) {
             let mut program = Program::new(recording, world.names());
             for _ in 0..CALLS {

@@ -63,7 +63,7 @@ impl World {
     fn any(random: &mut Random) -> Self {
         let (mut journal, mut image) = (Vec::new(), Vec::new());
         let kind = journals::fill(random, &mut journal);
-        if random.one_in(4) {
+        if random.one_in(2) {
             images::fill(random, &mut image);
         }
         Self::of(kind, journal, image)

@@ -6,7 +6,9 @@ use super::library::START_WORDS;
 use super::model::{Listed, Next};
 use super::whole::{rewind, unexpected, Before, Caller, Made, Rewound};
 use crate::difference::Finding;
+use crate::image::layout::{Entry as MftEntry, Name, ENTRY, NAME, RESIDENT, SECTOR_ENDS};
 use crate::names::cases::bytes_of;
+use crate::paths::cases::carve;
 use crate::paths::edges::under;
 use crate::paths::library::{path_resolve, Key, Slots, Sources, PATH_FIELDS, SLOT_WORDS};
 use crate::paths::lists::Room;
@@ -218,6 +220,49 @@ pub fn deep() -> Result<u64, Finding> {
         }
     }
     Ok(cases)
+}
+
+/// A folder whose name begins at every offset around a sector's end of its entry, which seeds the table, and a file that is
+/// created in it and renamed.
+pub fn sector_ends() -> Result<u64, Finding> {
+    let changes = [([43, 3], [42, 3], "a", CREATE), ([43, 3], [42, 3], "b", NEW_NAME)];
+    let journal = Journal::of(&V2, &changes);
+    let mut cases = 0;
+    let mut made = Made::default();
+    for (end, units) in SECTOR_ENDS.into_iter().flat_map(|end| [1, 3].map(|units| (end, units))) {
+        for start in end - 2 * units..=(end + 1).min(ENTRY - 2 * units) {
+            let mut entry = MftEntry::new(start - RESIDENT - NAME, 0);
+            entry.fitting_name(&Name::of(units, 1));
+            let image = entry.ended();
+            let names = Sources {
+                image: &image,
+                ..journal.names()
+            };
+            let list = carve(&image);
+            let mut pair = Pair::empty(names, SLOT_WORDS);
+            let added = Added::Listed {
+                entries: &list.entries,
+                rust: Some(&list.rust),
+            };
+            pair.store(pair.given(), added, STORED)?;
+            let before = Before::of(pair).expect("the Rust has the keys");
+            let listed = Listed::of(names, &journal.list);
+            let words = [2 * SLOT_WORDS; 2];
+            rewind(
+                &listed,
+                &journal.records(),
+                before,
+                words,
+                &mut InTurn::default(),
+                &mut made,
+            )?;
+            cases += 1;
+        }
+    }
+    match made.restored {
+        0 => Err(unexpected("rewinds", "paths with names that restoring changes", "none")),
+        _ => Ok(cases),
+    }
 }
 
 /// Every offset in and around a journal with records of versions 2, 3 and 4, zeros and rubbish, alone and behind a

@@ -1,6 +1,7 @@
 //! Journals as volumes write them: files and folders that are created, changed, renamed, moved and deleted, and entries that
 //! are used again; and images with entries of the same keys.
 
+use crate::image::ends::{name_at_a_sector_end, stored};
 use crate::image::layout::{Entry as MftEntry, Name, FIRST, FLAGS, NUMBER, SEQUENCE};
 use crate::journals::walks::FIRST_TIME;
 use crate::names::cases::unit;
@@ -319,7 +320,7 @@ impl History {
     }
 }
 
-/// An entry of a file, as far as its fields hold the numbers.
+/// An entry of a file, as far as its fields hold the numbers, its name as often as not at a sector's end.
 fn entry(random: &mut Random, file: &File) -> Vec<u8> {
     let mut entry = MftEntry::new(FIRST, 0);
     let [number, sequence] = file.key;
@@ -331,10 +332,16 @@ fn entry(random: &mut Random, file: &File) -> Vec<u8> {
         .name
         .chunks_exact(2)
         .map(|unit| u16::from_le_bytes([unit[0], unit[1]]));
-    entry.name(&Name {
+    let name = Name {
         parent: file.parent[0] | file.parent[1] << 48,
         namespace: random.pick(&[1, 1, 3, 0, 2]),
         units: units.collect(),
-    });
-    entry.ended()
+    };
+    match random.one_in(2) {
+        true => name_at_a_sector_end(random, &mut entry, &name),
+        false => {
+            entry.name(&name);
+        }
+    }
+    stored(random, entry.end())
 }

@@ -56,7 +56,7 @@ pub fn run(run: &Run) -> Outcome {
         })?;
     }
     println!("{SUBJECT}: {rewinds} cases, {made}, seed {}, no difference", run.seed);
-    Ok(())
+    run.met(SUBJECT, "a path with a name that restoring changes", made.restored)
 }
 
 /// An input of the fuzzer: its first byte says, in 256ths, which part of the rest is the journal; the image is what is left.
@@ -119,6 +119,7 @@ fn exhaustive(above: &[u8]) -> Result<u64, Difference> {
     group("known", edges::known())?;
     group("small journals", edges::small())?;
     group("deep folders", edges::deep())?;
+    group("folders with names at sector ends", edges::sector_ends())?;
     group("offsets", edges::offsets())?;
     group("refused starts", refusals::starts(above))?;
     group("refused steps", refusals::steps(above))?;

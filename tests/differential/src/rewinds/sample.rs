@@ -1,11 +1,12 @@
 //! What is recorded of rewinds, with the Rust's answers: for each history a line, how many records the scan of the journal
-//! gives and how many keys the Rust's table has after the rewind, which the image's entries seed, and for each record a line,
-//! its path in hexadecimal.
+//! gives and how many keys the Rust's table has after the rewind, which the entries of the image's restored copy seed, and
+//! for each record a line, its path in hexadecimal.
 
 use super::edges::{Change, Journal};
 use super::histories::{History, CREATE, NEW_NAME, OLD_NAME, ROOT};
 use crate::carve::carve_mft_entries;
 use crate::image::layout::ENTRY;
+use crate::image::restored::restored;
 use crate::names::comparison::hex;
 use crate::random::Random;
 use crate::recording::{Kind, Recording};
@@ -88,7 +89,7 @@ fn random(sample: &mut Sample) {
 fn answer(journal: &[u8], image: &[u8]) -> (usize, Vec<String>) {
     let records = parse_usn_journal(journal).expect("the scan has no error");
     let mut rust = RewindEngine::new();
-    rust.seed_from_carved(&carve_mft_entries(image).0);
+    rust.seed_from_carved(&carve_mft_entries(&restored(image).bytes).0);
     let resolved = rust.rewind(&records);
     let paths = resolved.into_iter().map(|record| record.full_path);
     (rust.lookup_len(), paths.collect())

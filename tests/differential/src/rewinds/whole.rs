@@ -9,7 +9,7 @@ use crate::library::{ACCEPTED, TEXT_TOO_SMALL};
 use crate::names::comparison::hex;
 use crate::paths::library::{path_resolve, Key, Slots, Sources, PATH_FIELDS, SLOT_WORDS};
 use crate::paths::lists::Room;
-use crate::paths::model::{key, parent, End, Table};
+use crate::paths::model::{key, parent, restored, End, Table};
 use crate::paths::pair::{rust_key, Pair};
 use crate::rewind::RewindEngine;
 use crate::usn::UsnRecord;
@@ -19,13 +19,15 @@ use std::fmt;
 /// The numbers of refusals are below this.
 pub const REFUSALS: usize = 13;
 
-/// What the rewinds had: the records by the end of their parent's path, the steps with text, those that 8 refused, and the
-/// calls beside the rewinds, those accepted and those refused by their number.
+/// What the rewinds had: the records by the end of their parent's path, the names of these paths that were decoded as others
+/// than the bytes that are stored, the steps with text, those that 8 refused, and the calls beside the rewinds, those accepted
+/// and those refused by their number.
 #[derive(Default)]
 pub struct Made {
     pub root: u64,
     pub unknown: u64,
     pub unresolved: u64,
+    pub restored: u64,
     pub texts: u64,
     pub short_texts: u64,
     pub beside: u64,
@@ -36,9 +38,9 @@ impl fmt::Display for Made {
     fn fmt(&self, f: &mut fmt::Formatter<'_>) -> fmt::Result {
         write!(
             f,
-            "records: {} to the root, {} unknown, {} unresolved, {} with text, {} of them first a byte short, \
-             beside them {} calls accepted, refused",
-            self.root, self.unknown, self.unresolved, self.texts, self.short_texts, self.beside
+            "records: {} to the root, {} unknown, {} unresolved, {} names of their paths changed by restoring, {} with \
+             text, {} of them first a byte short, beside them {} calls accepted, refused",
+            self.root, self.unknown, self.unresolved, self.restored, self.texts, self.short_texts, self.beside
         )?;
         let met = self.refused.iter().enumerate().filter(|(_, &count)| count > 0);
         let shown: Vec<String> = met.map(|(number, count)| format!(" {count} by {number}")).collect();
@@ -133,6 +135,8 @@ pub fn rewind<'a>(
         caller.between(&rewound)?;
         let step = rewound.step(caller, made)?;
         compare_step(listed, &rewound, &step, [&record.full_path, &record.parent_path])?;
+        let changed = step.chain.places.iter().filter(|&&place| restored(listed.names, place));
+        made.restored += changed.count() as u64;
         *match step.chain.end {
             End::Root => &mut made.root,
             End::Unknown(_) => &mut made.unknown,
