@@ -22,7 +22,8 @@ use Rattle.additions.specs.Storing.{addAll, newKeys, adding, storing}
 use Rattle.chain.specs.Chain.{isRoot, chain}
 use Rattle.chain.specs.Tracing.{withPlaces}
 use Rattle.chain.specs.declared.ChainEnd.the-variants.{Root}
-use Rattle.path_text.specs.Text.{endText, placeText, stepText, pathText}
+use Rattle.mft_sectors.specs.Stored.{inEntry, imageBytes}
+use Rattle.path_text.specs.Text.{endText, placeText, stepText, pathText, imageText}
 use Rattle.rewind_records.specs.Environment.{rewindRefusal}
 use Rattle.rewind_records.specs.Turning.{ended, next, turning}
 use Rattle.rewind_steps.specs.StepText.{recordText}
@@ -146,7 +147,7 @@ afterwards =
     ∷ []
 
 pub computed : results source (map (λ (d : Done). d .call) (before ++ full ∷ afterwards)) (state empty 0 nines 3 9 eights) ≡ before ++ full ∷ afterwards
-unfolding stored startResult nextResult handed lent storing starting rewindRefusal turning adding addAll addFound putAt newKeys findFrom sameKey every inside rows hasReason entryFrom chain isRoot withPlaces recordText pathText endText stepText placeText decoded codePoints alone utf8 unitsAt listed parsed recordOf referenceOf filenameOf leAt le
+unfolding stored startResult nextResult handed lent storing starting rewindRefusal turning adding addAll addFound putAt newKeys findFrom sameKey every inside rows hasReason entryFrom chain isRoot withPlaces recordText pathText endText stepText placeText imageText imageBytes inEntry decoded codePoints alone utf8 unitsAt listed parsed recordOf referenceOf filenameOf leAt le
 computed = refl
 
 -- the next that 8 refused is struck out, and no other
@@ -164,5 +165,5 @@ pub runs : (callRooms journal image (source .records) entered (stateOf 3 0) 20 3
     × (callRooms journal image (source .records) entered (stateOf 3 0) 20 0 ≡ [])
     × (callRooms journal image (source .records) entered (stateOf 7 0) 20 3 ≡ 20 ∷ [])
     × (callRooms journal image (source .records) entered (stateOf 7 0) 20 0 ≡ 20 ∷ [])
-unfolding testedRun rooms rewindRefusal turning adding addAll addFound putAt newKeys findFrom sameKey every inside rows hasReason entryFrom chain isRoot withPlaces recordText pathText endText stepText placeText decoded codePoints alone utf8 unitsAt listed parsed recordOf referenceOf filenameOf leAt le
+unfolding testedRun rooms rewindRefusal turning adding addAll addFound putAt newKeys findFrom sameKey every inside rows hasReason entryFrom chain isRoot withPlaces recordText pathText endText stepText placeText imageText imageBytes inEntry decoded codePoints alone utf8 unitsAt listed parsed recordOf referenceOf filenameOf leAt le
 runs = (refl, refl, refl, refl)
