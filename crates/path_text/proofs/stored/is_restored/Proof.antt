@@ -1,4 +1,5 @@
 -- Each way out by the tests that led to it.
+use native.Mathlib.Omega.{arith}
 use borrow.Author.Needs.{needs}
 use Rattle.path_text.proofs.ImageLaws.{not-met, by-entry}
 use Rattle.path_text.proofs.stored.is_restored.Statement.{statement}
@@ -8,7 +9,7 @@ add-if1 : tie.Need-add-if1
 add-if1 c = search needs
 
 returns : tie.Need-returns
-returns c = not-met (c .before .before .before .before .args .image .now) (c .before .before .before .before .args .place) (c .before .before .before .before .pre) (c .if1 .taken)
+returns c = not-met (c .before .before .before .before .args .image .now) (c .before .before .before .before .args .place) (c .before .before .before .before .pre) (omega (arith, c .if1 .taken))
 
 in-entry-requires : tie.Need-in-entry-requires
 in-entry-requires c κs = search needs
