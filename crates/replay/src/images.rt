@@ -11,6 +11,9 @@ use recording::lines::write_refused;
 use utf16::Decoded;
 use utf16::decode_utf16;
 
+// The source of a name in the image; any number but the journal's 0 is.
+const IMAGE: u64 = 1;
+
 pub(crate) fn carve(image: &[u8]) {
     let mut list = [0u64; 576];
     match carve_mft_entries(image, &mut list) {
@@ -55,19 +58,16 @@ fn write_entry(image: &[u8], list: &[u64], at: usize) {
     write_field(list[at + 6]);
     write_field(list[at + 7]);
     write_field(list[at + 8]);
-    write_place(image, list[at + 3] as usize, list[at + 4] as usize);
+    write_place(image, list[at + 3], list[at + 4]);
 }
 
-// The text of the name at a place.
-fn write_place(image: &[u8], offset: usize, length: usize) {
-    if image.len() < length {
-        return;
+// The text of the name at a place of the image, with the true ends of its entry's sectors.
+fn write_place(image: &[u8], offset: u64, length: u64) {
+    let mut text = [0u8; 1024];
+    match path_text::decode(&image[..0], image, IMAGE, offset, length, &mut text) {
+        Decoded::Text(n) => write_hex(&text, n),
+        Decoded::Refused(n) => write_refused(n),
     }
-    if image.len() - length < offset {
-        return;
-    }
-    let end = offset + length;
-    write_text(&image[offset..end]);
 }
 
 // A name's text.
