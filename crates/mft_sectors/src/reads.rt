@@ -1,5 +1,5 @@
 // Reads of a restored entry, whose update sequence array stands at `array`. Nothing is copied: a read that meets no sector's end is
-// one of the entry as it is stored.
+// one of the entry as it is stored. Most reads end before the first sector's end, and these have one test more than a plain read.
 ghost use mathlib.Core.Path.{_≡_};
 ghost use Rattle.usn_record.specs.Bytes.{leAt};
 ghost use Rattle.mft_sectors.specs.SectorEnds.{restoredBy};
@@ -13,41 +13,42 @@ use usn_record::bytes::le_u64;
 pub fn restored_byte(entry: &[u8], array: u16, offset: usize) -> u8
     ensures { λ r. ⌜ r ≡ leAt 1 (restoredBy array (now (entry .entry))) offset ⌝ }
 {
-    if offset % SECTOR < BODY {
+    if offset < BODY {
         return byte_at(entry, offset);
     }
-    home_byte(entry, array, offset)
+    later_byte(entry, array, offset)
 }
 
 pub fn restored_u16(entry: &[u8], array: u16, offset: usize) -> u16
     ensures { λ r. ⌜ r ≡ leAt 2 (restoredBy array (now (entry .entry))) offset ⌝ }
 {
-    if offset % SECTOR <= BODY - 2 {
+    if offset <= BODY - 2 {
         return le_u16(entry, offset);
     }
-    across_u16(entry, array, offset)
+    later_u16(entry, array, offset)
 }
 
 pub fn restored_u32(entry: &[u8], array: u16, offset: usize) -> u32
     ensures { λ r. ⌜ r ≡ leAt 4 (restoredBy array (now (entry .entry))) offset ⌝ }
 {
-    if offset % SECTOR <= BODY - 4 {
+    if offset <= BODY - 4 {
         return le_u32(entry, offset);
     }
-    across_u32(entry, array, offset)
+    later_u32(entry, array, offset)
 }
 
 pub fn restored_u64(entry: &[u8], array: u16, offset: usize) -> u64
     ensures { λ r. ⌜ r ≡ leAt 8 (restoredBy array (now (entry .entry))) offset ⌝ }
 {
-    if offset % SECTOR <= BODY - 8 {
+    if offset <= BODY - 8 {
         return le_u64(entry, offset);
     }
-    across_u64(entry, array, offset)
+    later_u64(entry, array, offset)
 }
 
-// The same reads, each byte at its home. They stand apart, and call each other, so that the compiler keeps them out of the ones above.
-fn home_byte(entry: &[u8], array: u16, offset: usize) -> u8
+// The same reads wherever they are: one that meets a sector's end is put together from halves, and a byte there is read at its home. They
+// stand apart, and have several callers each, so that the compiler keeps them out of the ones above.
+fn later_byte(entry: &[u8], array: u16, offset: usize) -> u8
     ensures { λ r. ⌜ r ≡ leAt 1 (restoredBy array (now (entry .entry))) offset ⌝ }
 {
     if entry.len() <= offset {
@@ -61,9 +62,12 @@ fn home_byte(entry: &[u8], array: u16, offset: usize) -> u8
     byte_at(entry, home)
 }
 
-fn across_u16(entry: &[u8], array: u16, offset: usize) -> u16
+fn later_u16(entry: &[u8], array: u16, offset: usize) -> u16
     ensures { λ r. ⌜ r ≡ leAt 2 (restoredBy array (now (entry .entry))) offset ⌝ }
 {
+    if offset % SECTOR <= BODY - 2 {
+        return le_u16(entry, offset);
+    }
     let n = entry.len();
     if n < 2 {
         return 0;
@@ -71,12 +75,16 @@ fn across_u16(entry: &[u8], array: u16, offset: usize) -> u16
     if n - 2 < offset {
         return 0;
     }
-    (home_byte(entry, array, offset) as u16) + (home_byte(entry, array, offset + 1) as u16) * 0x100
+    (later_byte(entry, array, offset) as u16)
+        + (later_byte(entry, array, offset + 1) as u16) * 0x100
 }
 
-fn across_u32(entry: &[u8], array: u16, offset: usize) -> u32
+fn later_u32(entry: &[u8], array: u16, offset: usize) -> u32
     ensures { λ r. ⌜ r ≡ leAt 4 (restoredBy array (now (entry .entry))) offset ⌝ }
 {
+    if offset % SECTOR <= BODY - 4 {
+        return le_u32(entry, offset);
+    }
     let n = entry.len();
     if n < 4 {
         return 0;
@@ -84,13 +92,16 @@ fn across_u32(entry: &[u8], array: u16, offset: usize) -> u32
     if n - 4 < offset {
         return 0;
     }
-    (across_u16(entry, array, offset) as u32)
-        + (across_u16(entry, array, offset + 2) as u32) * 0x1_0000
+    (later_u16(entry, array, offset) as u32)
+        + (later_u16(entry, array, offset + 2) as u32) * 0x1_0000
 }
 
-fn across_u64(entry: &[u8], array: u16, offset: usize) -> u64
+fn later_u64(entry: &[u8], array: u16, offset: usize) -> u64
     ensures { λ r. ⌜ r ≡ leAt 8 (restoredBy array (now (entry .entry))) offset ⌝ }
 {
+    if offset % SECTOR <= BODY - 8 {
+        return le_u64(entry, offset);
+    }
     let n = entry.len();
     if n < 8 {
         return 0;
@@ -98,6 +109,6 @@ fn across_u64(entry: &[u8], array: u16, offset: usize) -> u64
     if n - 8 < offset {
         return 0;
     }
-    (across_u32(entry, array, offset) as u64)
-        + (across_u32(entry, array, offset + 4) as u64) * 0x1_0000_0000
+    (later_u32(entry, array, offset) as u64)
+        + (later_u32(entry, array, offset + 4) as u64) * 0x1_0000_0000
 }

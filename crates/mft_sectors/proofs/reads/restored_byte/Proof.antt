@@ -1,4 +1,4 @@
--- A byte before its sector's end.
+-- A byte before the first sector's end.
 use mathlib.Core.Path.{_∙_}
 use native.Mathlib.Omega.{arith}
 use Rattle.mft_sectors.proofs.SectorLaws.{read-body}
@@ -12,11 +12,11 @@ byte-at-requires c κs = search needs
 returns : tie.Need-returns
 returns c = c .byte-at .ensures ∙ read-body _ _ 1 _ (omega arith)
 
-home-byte-requires : tie.Need-home-byte-requires
-home-byte-requires c κs = search needs
+later-byte-requires : tie.Need-later-byte-requires
+later-byte-requires c κs = search needs
 
 returns-2 : tie.Need-returns-2
 returns-2 c = search needs
 
 pub restored-byte-spec : {M : Type 1} → statement M
-restored-byte-spec = tie.close (tie.spec byte-at-requires returns home-byte-requires returns-2)
+restored-byte-spec = tie.close (tie.spec byte-at-requires returns later-byte-requires returns-2)

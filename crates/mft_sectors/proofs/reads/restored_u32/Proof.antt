@@ -1,4 +1,4 @@
--- A read that meets no end of a sector.
+-- A read that ends before the first sector's end.
 use mathlib.Core.Path.{_∙_}
 use native.Mathlib.Omega.{arith}
 use Rattle.mft_sectors.proofs.SectorLaws.{read-body}
@@ -15,12 +15,12 @@ le-u32-requires c κs = search needs
 returns : tie.Need-returns
 returns c = c .le-u32 .ensures ∙ read-body _ _ 4 _ (omega arith)
 
-across-u32-requires : tie.Need-across-u32-requires
-across-u32-requires c κs = search needs
+later-u32-requires : tie.Need-later-u32-requires
+later-u32-requires c κs = search needs
 
 returns-2 : tie.Need-returns-2
 returns-2 c = search needs
 
 pub restored-u32-spec : {M : Type 1} → statement M
 restored-u32-spec =
-    tie.close (tie.spec sub-if1 le-u32-requires returns across-u32-requires returns-2)
+    tie.close (tie.spec sub-if1 le-u32-requires returns later-u32-requires returns-2)

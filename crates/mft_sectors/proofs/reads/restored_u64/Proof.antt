@@ -1,4 +1,4 @@
--- A read that meets no end of a sector.
+-- A read that ends before the first sector's end.
 use mathlib.Core.Path.{_∙_}
 use native.Mathlib.Omega.{arith}
 use Rattle.mft_sectors.proofs.SectorLaws.{read-body}
@@ -15,12 +15,12 @@ le-u64-requires c κs = search needs
 returns : tie.Need-returns
 returns c = c .le-u64 .ensures ∙ read-body _ _ 8 _ (omega arith)
 
-across-u64-requires : tie.Need-across-u64-requires
-across-u64-requires c κs = search needs
+later-u64-requires : tie.Need-later-u64-requires
+later-u64-requires c κs = search needs
 
 returns-2 : tie.Need-returns-2
 returns-2 c = search needs
 
 pub restored-u64-spec : {M : Type 1} → statement M
 restored-u64-spec =
-    tie.close (tie.spec sub-if1 le-u64-requires returns across-u64-requires returns-2)
+    tie.close (tie.spec sub-if1 le-u64-requires returns later-u64-requires returns-2)

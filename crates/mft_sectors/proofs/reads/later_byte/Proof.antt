@@ -4,8 +4,8 @@ use native.Mathlib.Omega.{arith}
 use Rattle.usn_record.proofs.ByteLaws.{read-past}
 use Rattle.mft_sectors.proofs.SectorLaws.{length-restored, home-end, read-body, read-home}
 use borrow.Author.Needs.{needs}
-use Rattle.mft_sectors.proofs.reads.home_byte.Statement.{statement}
-use Rattle.mft_sectors.proofs.reads.home_byte.Tie as tie
+use Rattle.mft_sectors.proofs.reads.later_byte.Statement.{statement}
+use Rattle.mft_sectors.proofs.reads.later_byte.Tie as tie
 
 returns : tie.Need-returns
 returns c = sym (read-past 1 _ _ (rw length-restored (omega arith)))
@@ -34,8 +34,8 @@ byte-at-requires-2 c κs = search needs
 returns-3 : tie.Need-returns-3
 returns-3 c = c .byte-at2 .ensures ∙ read-home _ _ _ (omega arith) (sym (home-end _ _ (omega arith)))
 
-pub home-byte-spec : {M : Type 1} → statement M
-home-byte-spec =
+pub later-byte-spec : {M : Type 1} → statement M
+later-byte-spec =
     tie.close
     (tie.spec
     returns
