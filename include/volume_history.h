@@ -4,7 +4,16 @@
  *
  * A name is a place: a source, which is 0 for the journal and any other number for the image, an offset in bytes from the start of
  * that slice, and a length in bytes. Calls take journal and image beside a table, and places in it mean those slices: hand the same
- * ones over each time. Either may be empty. */
+ * ones over each time. Either may be empty.
+ *
+ * NTFS stores an MFT entry with a check value at the last two bytes of each sector of 512, and keeps the true bytes in the entry's
+ * update sequence array, whose offset stands at 4 and whose count at 6: the check value, and the true end of each sector. The array
+ * is sound where the count is 3, the offset is even and at least 48, the array ends by the first attribute (its offset stands at 20)
+ * and by byte 510, and both sectors end with the check value. The restored entry has the true ends, and every other byte as stored.
+ *
+ * A name in the image whose place, by its length as stored, lies inside the 1024 bytes from a multiple of 1024 on, where these lie
+ * in the image, begin with FILE and have a sound array, is decoded from the restored entry. A name at any other place of the image,
+ * and every name in the journal, is decoded from the bytes as they are. */
 #ifndef VOLUME_HISTORY_H
 #define VOLUME_HISTORY_H
 
@@ -22,7 +31,7 @@ enum mft_entry_word {
     MFT_ENTRY_NUMBER = 1,
     MFT_SEQUENCE_NUMBER = 2,
     MFT_NAME_OFFSET = 3,      /* in bytes, from the start of the image */
-    MFT_NAME_LENGTH = 4,      /* in bytes; the name is UTF-16, little endian */
+    MFT_NAME_LENGTH = 4,      /* in bytes; the name is UTF-16, little endian, and path_decode gives its text */
     MFT_PARENT_ENTRY = 5,
     MFT_PARENT_SEQUENCE = 6,
     MFT_IS_DIRECTORY = 7,     /* 1 or 0 */
@@ -40,12 +49,14 @@ enum mft_carving_word {
 };
 
 /* mft_carve_entries: the MFT entries in an image, looked for at each multiple of 1024. For each MFT_ENTRY_WORDS words go to list,
- * and the MFT_CARVING_WORDS counters to out. An image of n bytes has at most n / 1024 entries.
+ * and the MFT_CARVING_WORDS counters to out. An image of n bytes has at most n / 1024 entries. An entry whose array is not sound is
+ * rejected; names and parents are those of the restored entry, and a name's place is where it stands in the image.
  * Refuses: 1 the image is above the domain; 5 out has fewer than 4 words, or list fewer than nine for each entry. */
 uint32_t mft_carve_entries(const uint8_t *image, size_t image_len, uint64_t *list, size_t list_len, uint64_t *out, size_t out_len);
 
 /* utf16_decode: the UTF-16 of bytes, little endian, as UTF-8 at the front of text; how many bytes that is goes to out, one word.
- * An unpaired surrogate becomes EF BF BD (h), an odd last byte is dropped. Three bytes of text for each two of bytes always do.
+ * An unpaired surrogate becomes EF BF BD (h), an odd last byte is dropped. Three bytes of text for each two of bytes always do. The
+ * bytes are taken as they are: for a name in an image call path_decode.
  * Refuses: 1 the bytes are above the domain; 5 out has no word; 8 the text is too small. */
 uint32_t utf16_decode(const uint8_t *bytes, size_t bytes_len, uint8_t *text, size_t text_len, uint64_t *out, size_t out_len);
 
@@ -147,8 +158,9 @@ enum path_word {
 #define PATH_ENOUGH_CHAIN_WORDS (257 * PATH_PLACE_WORDS)
 
 /* path_resolve: the path of a key: its names from the top down, with a backslash before each, behind what they hang under, as UTF-8
- * at the front of text. The names' places go to the front of chain, the top one first, PATH_PLACE_WORDS words each; chain is left
- * alone where it has no room for all of them, and may be empty. The PATH_WORDS words go to out.
+ * at the front of text. A name in an entry of the image with a sound array is that of the restored entry. The names' places go to
+ * the front of chain, the top one first, PATH_PLACE_WORDS words each; chain is left alone where it has no room for all of them, and
+ * may be empty. The PATH_WORDS words go to out.
  * Refuses: 1 journal or image is above the domain; 5 out has fewer than 5 words; 9 used is above the slots; 7 the name's place of a
  * used slot is outside its slice; 8 the text is too small. */
 uint32_t path_resolve(const uint8_t *journal, size_t journal_len, const uint8_t *image, size_t image_len, const uint64_t *slots,
@@ -162,7 +174,8 @@ uint32_t path_chain(const uint8_t *journal, size_t journal_len, const uint8_t *i
                     uint64_t *out, size_t out_len);
 
 /* path_decode: the name at a place of the journal (source 0) or of the image (any other), as UTF-8 at the front of text; how many
- * bytes that is goes to out, one word. An odd last byte is dropped.
+ * bytes that is goes to out, one word. An odd last byte is dropped. A name in an entry of the image with a sound array is that of
+ * the restored entry.
  * Refuses: 1 journal or image is above the domain; 5 out has no word; 7 the place is outside its slice; 8 the text is too
  * small. */
 uint32_t path_decode(const uint8_t *journal, size_t journal_len, const uint8_t *image, size_t image_len, uint64_t source,
@@ -202,9 +215,9 @@ enum rewind_step_word {
 
 /* rewind_next: the next record of a rewind, whose state is used and position, goes into forward, one with a new name or a creation
  * in place of a known entry, any other where its key is new. Its path, which is its parent's, a backslash and its name, goes to the
- * front of text as UTF-8, and the places of its parent's path to chain, as path_resolve leaves them. The REWIND_STEP_WORDS words go
- * to out, or the first three where no record is left. A step that 8 refused has changed nothing: repeat it with a larger text, or
- * call rewind_next_chain.
+ * front of text as UTF-8, and the places of its parent's path to chain, as path_resolve leaves them; names in the image are restored
+ * as there, and the record's own is taken from the journal as it is. The REWIND_STEP_WORDS words go to out, or the first three where
+ * no record is left. A step that 8 refused has changed nothing: repeat it with a larger text, or call rewind_next_chain.
  * Every call tests every record that it is lent and every used slot: for many records call rewind_run.
  * Refuses: 1 journal or image is above the domain; 5 out has fewer than 8 words; 9 used is above the slots; 12 at a listed offset
  * stands no record; 7 the name's place of a used slot is outside its slice; 6 the record's key is new and no slot is left; 8 the
@@ -241,9 +254,9 @@ enum rewind_run_word {
 /* rewind_run: many steps of rewind_next in one call, which tests once what they test each, by way of an index of forward as
  * table_seed_indexed has it. As many steps are made as ends has words, unless no record is left or a step stops the run: 6 the
  * record's key is new and no slot is left, 8 its path passes what is left of text. That step has changed nothing, and a further run
- * goes on with it. The steps' paths go to the front of text, one behind the other, and where each of them ends to ends; no chain is
- * written. The REWIND_RUN_WORDS words go to out. Fewer steps than ends has words, and not stopped: no record is left. Lend all records
- * at every run, with the state that the run before gave.
+ * goes on with it. The steps' paths go to the front of text, one behind the other, and where each of them ends to ends; names in the
+ * image are restored as rewind_next has them, and no chain is written. The REWIND_RUN_WORDS words go to out. Fewer steps than ends
+ * has words, and not stopped: no record is left. Lend all records at every run, with the state that the run before gave.
  * Refuses, also where ends has no words: 1 journal or image, 5 out has fewer than 4 words, 9, 12 and 7 as rewind_next. */
 uint32_t rewind_run(const uint8_t *journal, size_t journal_len, const uint8_t *image, size_t image_len, const size_t *records,
                     size_t records_len, size_t used, size_t position, uint64_t *forward, size_t forward_len, uint64_t *heads,

@@ -20,11 +20,16 @@ pub const READING_WANTS: u64 = 1;
 /// The length of a window's buffer.
 pub const WINDOW_BYTES: usize = 65536;
 
+/// A slice with no bytes, and a source that is the image.
+const NO_BYTES: &[u8] = &[];
+const IMAGE_SOURCE: u64 = 1;
+
 /// How many words a carved MFT entry has.
 pub const ENTRY_WORDS: usize = 9;
 
-/// How many words a slot of a table has, and the words of its name's offset and length.
+/// How many words a slot of a table has, and the words of its name's place. A source of 0 is the journal.
 pub const SLOT_WORDS: usize = 7;
+pub const SLOT_NAME_SOURCE: usize = 4;
 pub const SLOT_NAME_OFFSET: usize = 5;
 pub const SLOT_NAME_LENGTH: usize = 6;
 
@@ -166,8 +171,31 @@ pub fn utf16_decode(bytes: &[u8], text: &mut [u8], out: &mut [u64; 1]) -> u32 {
     }
 }
 
-// The calls below know two slices of names, the journal's and the image's. This crate keeps all names in one slice and lends it
-// for both: they are only read, so they may be the same.
+/// The name at a place of an image as UTF-8 at the front of `text`, and how many bytes that is. Where the place lies in an entry
+/// with a sound array, the name is the one with the true sector ends.
+pub fn path_decode(image: &[u8], [offset, length]: [u64; 2], text: &mut [u8], out: &mut [u64; 1]) -> u32 {
+    // SAFETY: the slices are valid over their lengths, and `text` and `out`, which are written, are lent to this call alone.
+    unsafe {
+        declared::path_decode(
+            NO_BYTES.as_ptr(),
+            NO_BYTES.len(),
+            image.as_ptr(),
+            image.len(),
+            IMAGE_SOURCE,
+            offset,
+            length,
+            text.as_mut_ptr(),
+            text.len(),
+            out.as_mut_ptr(),
+            out.len(),
+        )
+    }
+}
+
+// The calls below know two slices of names, the journal's and the image's. This crate keeps all names in one slice and lends it as
+// the journal, whose bytes are decoded as they are. It is no image: a name in it could look like an MFT entry, and would then be
+// decoded with other bytes at its sector ends. So the image is empty, but for seeding, which takes names from no other slice and
+// decodes none; the slots that it fills are given the source 0.
 
 /// The entry of these words into a table, in place of a known one, and the used slots after it.
 pub fn table_insert(names: &[u8], slots: &mut [u64], used: usize, slot: &[u64; SLOT_WORDS], out: &mut [u64; 1]) -> u32 {
@@ -177,8 +205,8 @@ pub fn table_insert(names: &[u8], slots: &mut [u64], used: usize, slot: &[u64; S
         declared::table_insert(
             names.as_ptr(),
             names.len(),
-            names.as_ptr(),
-            names.len(),
+            NO_BYTES.as_ptr(),
+            NO_BYTES.len(),
             slots.as_mut_ptr(),
             slots.len(),
             used,
@@ -209,8 +237,8 @@ pub fn table_insert_if_absent(
         declared::table_insert_if_absent(
             names.as_ptr(),
             names.len(),
-            names.as_ptr(),
-            names.len(),
+            NO_BYTES.as_ptr(),
+            NO_BYTES.len(),
             slots.as_mut_ptr(),
             slots.len(),
             used,
@@ -227,7 +255,8 @@ pub fn table_insert_if_absent(
     }
 }
 
-/// The carved entries, `ENTRY_WORDS` words each, under those of their keys that are new, and the used slots after it.
+/// The carved entries, `ENTRY_WORDS` words each, under those of their keys that are new, and the used slots after it. The names of
+/// the slots that are filled have the image's source.
 pub fn table_seed_indexed(
     names: &[u8],
     slots: &mut [u64],
@@ -275,8 +304,8 @@ pub fn path_resolve(
         declared::path_resolve(
             names.as_ptr(),
             names.len(),
-            names.as_ptr(),
-            names.len(),
+            NO_BYTES.as_ptr(),
+            NO_BYTES.len(),
             slots.as_ptr(),
             slots.len(),
             used,
@@ -308,8 +337,8 @@ pub fn rewind_start_indexed(
         declared::rewind_start_indexed(
             names.as_ptr(),
             names.len(),
-            names.as_ptr(),
-            names.len(),
+            NO_BYTES.as_ptr(),
+            NO_BYTES.len(),
             records.as_ptr(),
             records.len(),
             slots.as_mut_ptr(),
@@ -353,8 +382,8 @@ pub fn rewind_run(
         declared::rewind_run(
             names.as_ptr(),
             names.len(),
-            names.as_ptr(),
-            names.len(),
+            NO_BYTES.as_ptr(),
+            NO_BYTES.len(),
             records.as_ptr(),
             records.len(),
             used,

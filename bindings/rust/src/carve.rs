@@ -2,7 +2,7 @@
 
 use crate::calls::{self, ENTRY_WORDS};
 use crate::error::{index, ruled_out, LIST_FULL, MAX_SLICE};
-use crate::text::decoded;
+use crate::text::decoded_in;
 
 /// The bytes of an MFT entry. [`MAX_SLICE`] is a multiple of it.
 const ENTRY_BYTES: usize = 1024;
@@ -16,7 +16,8 @@ pub struct CarvedMftEntry {
     pub entry_number: u64,
     /// The entry's sequence number.
     pub sequence_number: u16,
-    /// The name that was kept: a Win32 one rather than a DOS one.
+    /// The name that was kept: a Win32 one rather than a DOS one. It is the restored entry's, without the check values that stand
+    /// at the sector ends of the stored one.
     pub filename: String,
     /// The parent folder's entry number.
     pub parent_entry: u64,
@@ -38,6 +39,11 @@ pub struct MftCarvingStats {
 }
 
 /// The MFT entries in an image of any length, looked for at each multiple of 1024, and what was met.
+///
+/// NTFS stores an entry with a check value at the last two bytes of each sector of 512, and with the true bytes in the entry's
+/// update sequence array. The names and parents given here are those of the restored entry, which has the true bytes. An entry is
+/// rejected where its array is not sound: where its count is not 3, its offset is odd or below 48, it passes the first attribute or
+/// byte 510, or a sector does not end with its first number.
 ///
 /// An image longer than [`MAX_SLICE`] is handed to the library in parts of that length. No entry lies across two of them, so the
 /// answer is that of the whole.
@@ -79,12 +85,11 @@ fn carved(part: &[u8], first: usize) -> (Vec<u64>, [u64; 4]) {
 
 /// The entry of these words, which count from the start of a part; the part begins at `base`.
 fn entry_of(words: &[u64], part: &[u8], base: usize) -> CarvedMftEntry {
-    let name = index(words[3]);
     CarvedMftEntry {
         offset: base + index(words[0]),
         entry_number: words[1],
         sequence_number: words[2] as u16,
-        filename: decoded(&part[name..name + index(words[4])]),
+        filename: decoded_in(part, [words[3], words[4]]),
         parent_entry: words[5],
         parent_sequence: words[6] as u16,
         is_directory: words[7] != 0,
@@ -96,12 +101,13 @@ fn entry_of(words: &[u64], part: &[u8], base: usize) -> CarvedMftEntry {
 mod tests {
     use super::*;
 
-    /// An image of entries with the name `a`, of which each third is rejected for its sequence 0.
+    /// An image of entries with the name `a`, of which each third is rejected for its sequence 0. Their check value is 0, and so
+    /// are the true sector ends.
     fn image(entries: u8) -> Vec<u8> {
         let mut image = Vec::new();
         for number in 0..entries {
             let mut entry = [0; ENTRY_BYTES];
-            entry[..4].copy_from_slice(b"FILE");
+            entry[..8].copy_from_slice(b"FILE\x30\0\x03\0");
             entry[16] = number % 3;
             entry[20] = 56;
             entry[44] = number;
@@ -126,6 +132,20 @@ mod tests {
         for entries in 1..25 {
             assert_eq!(
                 carve_in_parts(&data, entries * ENTRY_BYTES),
+                whole,
+                "parts of {entries} entries"
+            );
+        }
+    }
+
+    #[test]
+    fn parts_give_the_restored_names_of_the_whole() {
+        let data = include_bytes!("../../../tests/samples/sector-ends.bin");
+        let whole = carve_in_parts(data, MAX_SLICE);
+        assert_eq!(whole.1.entries_carved, 28);
+        for entries in [1, 2, 7, 31] {
+            assert_eq!(
+                carve_in_parts(data, entries * ENTRY_BYTES),
                 whole,
                 "parts of {entries} entries"
             );

@@ -25,6 +25,8 @@
 //! - A slice above 1 GiB ([`MAX_SLICE`]) and a stream above 1 TiB ([`MAX_STREAM`]) are refused, except that
 //!   [`carve_mft_entries`] takes an image of any length. [`carve_usn_records`], which has no way to say so, panics then;
 //!   [`try_carve_usn_records`] gives an error.
+//! - [`carve_mft_entries`] restores the sector ends of an entry before it reads a name, and rejects an entry whose update sequence
+//!   array is not sound. The original takes the ends as they are stored: a long name of its has two foreign bytes.
 //! - [`UsnJournalReader`] gives the same records however its source cuts the bytes, and takes no stack for rubbish.
 //! - [`RewindEngine::insert`] and [`RewindEngine::resolve_path`] go through the table at each call, where the original hashes. Seeding and
 //!   rewinding build an index of it.

@@ -1,9 +1,10 @@
 //! A lookup table that grows, over the library's tables in lent memory.
 //!
 //! The library knows a name as a place in the journal or in the image. Here all names are kept as UTF-16 in one slice of our own,
-//! which is lent to it for both, so that a place means the same bytes whatever source a slot has.
+//! which is lent as the journal: its bytes are decoded as they are, whatever they look like. Every used slot has the journal's
+//! source.
 
-use crate::calls::{self, Index, Texts, ENTRY_WORDS, SLOT_NAME_LENGTH, SLOT_NAME_OFFSET, SLOT_WORDS};
+use crate::calls::{self, Index, Texts, ENTRY_WORDS, SLOT_NAME_LENGTH, SLOT_NAME_OFFSET, SLOT_NAME_SOURCE, SLOT_WORDS};
 use crate::carve::CarvedMftEntry;
 use crate::error::{index as number, ruled_out, MAX_SLICE, TABLE_FULL, TEXT_FULL};
 use crate::rewind::EntryKey;
@@ -17,6 +18,9 @@ const LONGEST_RECORD: usize = 65536;
 /// The bytes of text that a rewind lends at first, and how many more for each record.
 const FIRST_TEXT: usize = 4096;
 const USUAL_PATH: usize = 64;
+
+/// The source of every name that is kept.
+const JOURNAL_SOURCE: u64 = 0;
 
 /// An entry number of a version 2 record is below this.
 const ENTRIES: u64 = 1 << 48;
@@ -143,9 +147,14 @@ impl Table {
         self.slots.make_room(rows.len() / ENTRY_WORDS);
         let mut index = Index::for_slots(self.slots.words.len() / SLOT_WORDS);
         let names = &self.names;
+        let known = self.slots.used;
         self.slots.add("table_seed_indexed", |words, used, out| {
             calls::table_seed_indexed(names, words, used, rows, &mut index, out)
         });
+        let slots = self.slots.words.chunks_exact_mut(SLOT_WORDS);
+        for slot in slots.take(self.slots.used).skip(known) {
+            slot[SLOT_NAME_SOURCE] = JOURNAL_SOURCE;
+        }
     }
 
     /// The path of a key.
@@ -239,7 +248,15 @@ impl Table {
         let [entry, sequence] = words_of(key);
         let [parent_entry, parent_sequence] = words_of(parent);
         let [offset, length] = self.keep(name);
-        [entry, sequence, parent_entry, parent_sequence, 0, offset, length]
+        [
+            entry,
+            sequence,
+            parent_entry,
+            parent_sequence,
+            JOURNAL_SOURCE,
+            offset,
+            length,
+        ]
     }
 
     /// Puts a name behind the others, and tells its place.

@@ -3,11 +3,22 @@
 use crate::calls;
 use crate::error::{index, ruled_out, TEXT_FULL};
 
-/// The text of a name: its UTF-16, little endian, with U+FFFD for each unpaired surrogate. An odd last byte is dropped.
+/// The text of a name: its UTF-16, little endian, with U+FFFD for each unpaired surrogate. An odd last byte is dropped. The bytes
+/// are taken as they are.
 pub fn decoded(name: &[u8]) -> String {
     let (text, length) = with_text(name.len() / 2 * 3, "utf16_decode", |text| {
         let mut out = [0];
         (calls::utf16_decode(name, text, &mut out), out[0])
+    });
+    string(&text[..length])
+}
+
+/// The text of the name at an offset of an image, of so many bytes. It is that of the restored entry where the name lies in an
+/// entry with a sound array.
+pub fn decoded_in(image: &[u8], [offset, length]: [u64; 2]) -> String {
+    let (text, length) = with_text(index(length) / 2 * 3, "path_decode", |text| {
+        let mut out = [0];
+        (calls::path_decode(image, [offset, length], text, &mut out), out[0])
     });
     string(&text[..length])
 }

@@ -11,14 +11,15 @@ use borrow.Author.Tests.{le-leb, lt-leb}
 use lib.ListN.{length}
 use lib.Dec.{leb}
 use Rattle.base.specs.Outcome.{Outcome, refused, answered}
-use Rattle.entry_slots.specs.Slots.{slotsIn, sameKey, rows}
+use Rattle.entry_slots.specs.Slots.{slotsIn, sameKey}
+use Rattle.base.specs.Lists.{rows}
 use Rattle.entry_slots.specs.Table.{Table, table, find, isAt, known, Addition, addition}
 use Rattle.additions.specs.Storing.{newKeys, seen, keysOf, adding, usedAfter, wordsAfter}
 use Rattle.entry_slots.specs.declared.EntryKey.{EntryKey}
 use Rattle.entry_slots.specs.declared.EntryInfo.{EntryInfo}
 use Rattle.entry_slots.specs.declared.slots.Found.{Found}
 use Rattle.entry_slots.specs.declared.slots.Found.the-variants.{At, Nothing}
-use Rattle.entry_slots.proofs.RowLaws.{rows-next, rows-end, map-rows, length-rows}
+use Rattle.base.proofs.RowLaws.{rows-next, rows-end, map-rows, length-rows}
 use Rattle.entry_slots.proofs.TestLaws.{leb-sub}
 use Rattle.additions.proofs.CountLaws.{new-same, new-at-most, new-first, new-none, Adding, adding-start, adding-slot, adding-next, adding-end, adding-room, added-used, added-refused}
 

@@ -6,13 +6,12 @@ use mathlib.Core.Bool.{Bool}
 use native.Mathlib.Omega.{arith}
 use lib.ListN.{length, getD}
 use lib.Seq.{getD-append-add}
-use Rattle.base.specs.Lists.{flatten}
+use Rattle.base.specs.Lists.{flatten, rows}
 use Rattle.base.proofs.ListLaws.{length-flatten}
 use Rattle.mft_carver.specs.Carve.{entryWords}
 use Rattle.mft_carver.specs.declared.CarvedMftEntry.{CarvedMftEntry}
 use Rattle.entry_slots.specs.Names.{Lengths, allInside}
-use Rattle.entry_slots.specs.Slots.{rows}
-use Rattle.entry_slots.proofs.RowLaws.{map-rows}
+use Rattle.base.proofs.RowLaws.{map-rows}
 use Rattle.entry_slots.specs.Table.{Table, Addition}
 use Rattle.additions.specs.Storing.{namesOf, storing}
 use Rattle.additions.specs.Carved.{row, carvedAt, carvedName, carvedIn, additionOf, seeding}

@@ -3,10 +3,10 @@ use Prim.Native.Nat.{ℕ}
 use mathlib.Core.Path.{_≡_, refl}
 use mathlib.Core.List.{List, [], _∷_}
 use mathlib.Core.Bool.{true, false}
-use Rattle.base.specs.Lists.{every}
+use Rattle.base.specs.Lists.{every, rows}
 use Rattle.base.specs.Outcome.{refused, answered}
 use Rattle.entry_slots.specs.Names.{Lengths, lengths, inside}
-use Rattle.entry_slots.specs.Slots.{sameKey, putAt, findFrom, rows}
+use Rattle.entry_slots.specs.Slots.{sameKey, putAt, findFrom}
 use Rattle.entry_slots.specs.Table.{table, entered, lookup, addFound}
 use Rattle.additions.specs.Storing.{addAll, newKeys, adding, storing, inserting}
 use Rattle.additions.specs.Carved.{seeding}

@@ -6,7 +6,7 @@ use mathlib.Core.Bool.{Bool}
 use native.Mathlib.Omega.{arith}
 use borrow.Author.Tests.{lt-ltb, le-ltb}
 use lib.ListN.{length}
-use Rattle.entry_slots.specs.Slots.{rows}
+use Rattle.base.specs.Lists.{rows}
 use Rattle.entry_slots.specs.Table.{Table, Addition}
 use Rattle.entry_slots.specs.declared.EntryKey.{EntryKey}
 use Rattle.additions.specs.Storing.{fits}

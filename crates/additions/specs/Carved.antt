@@ -7,7 +7,8 @@ use Rattle.base.specs.Outcome.{Outcome}
 use Rattle.mft_carver.specs.Carve.{entryStride}
 use Rattle.mft_carver.specs.declared.CarvedMftEntry.{CarvedMftEntry}
 use Rattle.entry_slots.specs.Names.{Lengths}
-use Rattle.entry_slots.specs.Slots.{keyIn, rows}
+use Rattle.entry_slots.specs.Slots.{keyIn}
+use Rattle.base.specs.Lists.{rows}
 use Rattle.entry_slots.specs.Table.{Table, Addition, addition}
 use Rattle.additions.specs.Storing.{storing}
 use Rattle.entry_slots.specs.declared.EntryKey.{EntryKey}

@@ -5,7 +5,7 @@ use mathlib.Core.List.{List}
 use mathlib.Core.Bool.{cond}
 use lib.ListN.{length}
 use lib.Dec.{ltb}
-use Rattle.entry_slots.specs.Slots.{rows}
+use Rattle.base.specs.Lists.{rows}
 use Rattle.entry_slots.specs.Table.{Addition}
 use Rattle.entry_slots.specs.declared.EntryKey.{EntryKey}
 use Rattle.additions.specs.Carved.{row, carvedAt}

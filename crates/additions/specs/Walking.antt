@@ -2,7 +2,7 @@
 use Prim.Native.Nat.{ℕ, _-_, _*_, _/_}
 use mathlib.Core.List.{List}
 use lib.ListN.{length, getD}
-use Rattle.entry_slots.specs.Slots.{rows}
+use Rattle.base.specs.Lists.{rows}
 use Rattle.entry_slots.specs.Table.{Addition}
 use Rattle.entry_slots.specs.declared.EntryKey.{EntryKey}
 use Rattle.additions.specs.Entries.{entryAt, entryOr, backward}

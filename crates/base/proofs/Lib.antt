@@ -4,3 +4,4 @@ pub mod ListLaws
 pub mod WordLaws
 pub mod AgreeLaws
 pub mod MaskedLaws
+pub mod RowLaws

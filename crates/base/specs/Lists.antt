@@ -1,5 +1,5 @@
--- A lent list that takes results, each as a row of words, from its front on; and a test of every element of a list.
-use Prim.Native.Nat.{ℕ}
+-- A lent list that takes results, each as a row of words, from its front on; a test of every element of a list; and lists by their elements' numbers.
+use Prim.Native.Nat.{ℕ, zero, suc, _+_}
 use mathlib.Core.List.{List, [], _∷_, _++_}
 use mathlib.Core.Bool.{Bool, true, _&&_}
 use lib.ListN.{length, drop}
@@ -33,3 +33,8 @@ every test (x ∷ xs) = test x && every test xs
 abbrev pub All : {A : Type 0} → (A → Type 0) → List A → Type 0
 All P [] = Unit {0}
 All P (x ∷ xs) = P x × All P xs
+
+-- what f gives for each of the n numbers from i on
+unfoldable pub rows : {A : Type 0} → (ℕ → A) → ℕ → ℕ → List A
+rows f i zero = []
+rows f i (suc n) = f i ∷ rows f (i + 1) n

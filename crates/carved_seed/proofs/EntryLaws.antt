@@ -6,7 +6,7 @@ use mathlib.Core.Bool.{false}
 use native.Mathlib.Numerals.{add-one}
 use lib.ListN.{length, getD}
 use Rattle.mft_carver.specs.declared.CarvedMftEntry.{CarvedMftEntry}
-use Rattle.entry_slots.specs.Slots.{rows}
+use Rattle.base.specs.Lists.{rows}
 use Rattle.entry_slots.specs.Table.{Addition}
 use Rattle.additions.specs.Carved.{additionOf}
 

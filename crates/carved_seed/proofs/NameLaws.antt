@@ -6,11 +6,10 @@ use mathlib.Core.Bool.{Bool, true, false}
 use native.Mathlib.Omega.{arith}
 use native.Mathlib.Nat.{sub-zero}
 use Rattle.base.specs.Outcome.{Outcome, refused, answered}
-use Rattle.base.specs.Lists.{every}
+use Rattle.base.specs.Lists.{every, rows}
 use Rattle.entry_slots.specs.Names.{Lengths, inside}
-use Rattle.entry_slots.specs.Slots.{rows}
 use Rattle.entry_slots.specs.Table.{Addition}
-use Rattle.entry_slots.proofs.RowLaws.{rows-next, rows-end}
+use Rattle.base.proofs.RowLaws.{rows-next, rows-end}
 use Rattle.additions.proofs.AdditionLaws.{rowsFrom}
 use Rattle.carved_seed.specs.Tests.{namesTested, onward}
 

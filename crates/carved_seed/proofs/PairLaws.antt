@@ -10,7 +10,8 @@ use lib.Dec.{ltb, leb, eqb}
 use Rattle.base.specs.Outcome.{Outcome, refused, answered}
 use Rattle.base.proofs.ChoiceLaws.{cond-cases}
 use Rattle.mft_carver.specs.declared.CarvedMftEntry.{CarvedMftEntry}
-use Rattle.entry_slots.specs.Slots.{slotsIn, sameKey, rows}
+use Rattle.entry_slots.specs.Slots.{slotsIn, sameKey}
+use Rattle.base.specs.Lists.{rows}
 use Rattle.entry_slots.specs.Table.{Table, table, find, known, Addition}
 use Rattle.entry_slots.specs.declared.EntryKey.{EntryKey}
 use Rattle.entry_slots.specs.declared.slots.Found.{Found}

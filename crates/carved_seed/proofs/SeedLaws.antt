@@ -10,11 +10,12 @@ use Rattle.base.specs.Outcome.{Outcome, refused, answered}
 use Rattle.base.specs.Refusals.{badState, nameOutside, tableFull}
 use Rattle.base.proofs.ChoiceLaws.{cond-cases}
 use Rattle.entry_slots.specs.Names.{Lengths, inside, allInside}
-use Rattle.entry_slots.specs.Slots.{slotsIn, rows}
+use Rattle.entry_slots.specs.Slots.{slotsIn}
+use Rattle.base.specs.Lists.{rows}
 use Rattle.entry_slots.specs.Table.{Table, table, Addition, addition}
 use Rattle.entry_slots.specs.declared.EntryKey.{EntryKey}
 use Rattle.entry_slots.specs.declared.EntryInfo.{EntryInfo}
-use Rattle.entry_slots.proofs.RowLaws.{map-rows}
+use Rattle.base.proofs.RowLaws.{map-rows}
 use Rattle.entry_slots.proofs.NameLaws.{all-inside-at, one-inside}
 use Rattle.additions.specs.Storing.{newIn, fits, namesOf, adding, storing, inserting, usedAfter, wordsAfter}
 use Rattle.additions.proofs.StoringLaws.{adding-full, stored-bad-state, stored-outside, stored-inside}

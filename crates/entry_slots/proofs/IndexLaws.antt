@@ -10,10 +10,11 @@ use lib.ListN.{length, getD, set, replicate, length-set, length-replicate, getD-
 use lib.Seq.{ext-getD, getD-set-same, getD-set-other}
 use lib.Dec.{leb, eqb}
 use Rattle.base.proofs.ChoiceLaws.{cond-cases}
-use Rattle.entry_slots.specs.Slots.{stride, rows}
+use Rattle.entry_slots.specs.Slots.{stride}
+use Rattle.base.specs.Lists.{rows}
 use Rattle.entry_slots.specs.Table.{Table, table}
 use Rattle.entry_slots.specs.declared.EntryKey.{EntryKey}
-use Rattle.entry_slots.proofs.RowLaws.{length-rows}
+use Rattle.base.proofs.RowLaws.{length-rows}
 use Rattle.entry_slots.specs.Index.{hash, headOf, nextOf, headsOf, nextsOf, Indexed, enough}
 use Rattle.entry_slots.specs.Probing.{headsLinked, nextsLinked}
 

@@ -1,5 +1,4 @@
 pub mod TestLaws
-pub mod RowLaws
 pub mod NameLaws
 pub mod FindLaws
 pub mod PutLaws

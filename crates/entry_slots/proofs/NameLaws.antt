@@ -7,13 +7,12 @@ use native.Mathlib.Omega.{arith}
 use native.Mathlib.Nat.{sub-zero}
 use borrow.Author.Tests.{lt-leb}
 use lib.Dec.{leb}
-use Rattle.base.specs.Lists.{every}
+use Rattle.base.specs.Lists.{every, rows}
 use Rattle.base.proofs.ChoiceLaws.{and-left, and-right}
 use Rattle.entry_slots.specs.Names.{Lengths, lengthOf, inside, allInside}
-use Rattle.entry_slots.specs.Slots.{rows}
 use Rattle.entry_slots.specs.declared.NamePlace.{NamePlace}
 use Rattle.entry_slots.proofs.TestLaws.{from-here, leb-sub}
-use Rattle.entry_slots.proofs.RowLaws.{rows-next, rows-end}
+use Rattle.base.proofs.RowLaws.{rows-next, rows-end}
 
 module _ (ls : Lengths) (p : NamePlace) {end : ℕ} (e : end ≡ lengthOf ls (p .source)) where
   pub inside-long : end < p .length → false ≡ inside ls p

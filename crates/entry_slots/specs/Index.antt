@@ -7,7 +7,8 @@ use mathlib.Core.Bool.{Bool, cond, _&&_}
 use lib.ListN.{length}
 use lib.Dec.{eqb, ltb, leb}
 use Rattle.base.specs.Outcome.{Outcome, refused, answered}
-use Rattle.entry_slots.specs.Slots.{keyAt, rows}
+use Rattle.entry_slots.specs.Slots.{keyAt}
+use Rattle.base.specs.Lists.{rows}
 use Rattle.entry_slots.specs.Table.{Table}
 use Rattle.entry_slots.specs.declared.EntryKey.{EntryKey}
 

@@ -5,6 +5,7 @@ use mathlib.Core.Bool.{Bool, cond, _&&_}
 use lib.ListN.{length, getD}
 use lib.Seq.{sets}
 use lib.Dec.{eqb}
+use Rattle.base.specs.Lists.{rows}
 use Rattle.entry_slots.specs.declared.EntryKey.{EntryKey}
 use Rattle.entry_slots.specs.declared.NamePlace.{NamePlace}
 use Rattle.entry_slots.specs.declared.EntryInfo.{EntryInfo}
@@ -55,11 +56,6 @@ putAt s i k e = sets s (i * stride) (slotWords k e)
 unfoldable pub findFrom : List ℕ → EntryKey → ℕ → ℕ → Found
 findFrom s k i zero = Nothing
 findFrom s k i (suc n) = cond (sameKey (keyAt s i) k) (At i) (findFrom s k (i + 1) n)
-
--- what f gives for each of the n numbers from i on
-unfoldable pub rows : {A : Type 0} → (ℕ → A) → ℕ → ℕ → List A
-rows f i zero = []
-rows f i (suc n) = f i ∷ rows f (i + 1) n
 
 -- where the names of the first n slots lie
 abbrev pub namesIn : List ℕ → ℕ → List NamePlace

@@ -9,12 +9,13 @@ use lib.ListN.{length}
 use lib.Dec.{ltb, leb}
 use Rattle.base.specs.Outcome.{Outcome, answered}
 use Rattle.base.proofs.ChoiceLaws.{cond-cases, and-right}
-use Rattle.entry_slots.specs.Slots.{slotsIn, rows}
+use Rattle.entry_slots.specs.Slots.{slotsIn}
+use Rattle.base.specs.Lists.{rows}
 use Rattle.entry_slots.specs.Table.{Table, table, Addition}
 use Rattle.additions.specs.Storing.{adding}
 use Rattle.entry_table.specs.Promise.{outcome, StoresBy}
 use Rattle.entry_table.specs.declared.Stored.{Stored}
-use Rattle.entry_slots.proofs.RowLaws.{length-rows}
+use Rattle.base.proofs.RowLaws.{length-rows}
 use Rattle.additions.proofs.OneLaws.{added-table}
 use Rattle.additions.proofs.AdditionLaws.{AddingRows, rows-added}
 use Rattle.entry_table.proofs.AddingLaws.{none-after}

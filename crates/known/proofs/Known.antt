@@ -9,7 +9,7 @@ use borrow.Author.Tests.{eqb-true}
 use Rattle.usn_record.specs.Bytes.{le, leAt}
 use Rattle.usn_record.specs.Fields.{timestampOf, referenceOf, filenameOf}
 use Rattle.usn_record.specs.Record.{recordOf, parsed, listed, recordWords}
-use Rattle.base.specs.Lists.{All}
+use Rattle.base.specs.Lists.{All, rows}
 use Rattle.base.specs.Walk.{walk, from}
 use Rattle.base.proofs.ChoiceLaws.{and-left, and-right}
 use Rattle.base.proofs.WalkLaws.{all-append}
@@ -19,14 +19,16 @@ use Rattle.usn_carver.specs.Carve.{judged, carverVisitAs, carving}
 use Rattle.usn_carver.specs.Carve.{carverVisit}
 use Rattle.usn_window.specs.Journal.{stepAt, steps, toCome}
 use Rattle.mft_attributes.specs.Filename.{replaces, keep}
-use Rattle.mft_attributes.specs.Attributes.{given, attributeAt, filenameIn}
-use Rattle.mft_attributes.specs.Attributes.{attributeVisit}
-use Rattle.mft_carver.specs.Entry.{hasSignature}
+use Rattle.mft_sectors.specs.Signature.{hasSignature}
+use Rattle.mft_sectors.specs.SectorEnds.{ending, sound, home, restoredBy}
+use Rattle.mft_sectors.specs.Stored.{inEntry, imageBytes}
+use Rattle.mft_attributes.specs.Attributes.{given, attributeAt, attributeVisit, filenameIn}
 use Rattle.mft_carver.specs.Entry.{judged as entryJudged}
 use Rattle.mft_carver.specs.Carve.{imageVisit}
-use Rattle.utf16.specs.Utf16.{alone, codePoints}
+use Rattle.utf16.specs.Utf16.{alone, codePoints, unitsAt}
 use Rattle.utf16.specs.Utf8.{utf8}
 use Rattle.utf16.specs.Text.{decoded}
+use Rattle.path_text.specs.Text.{imageText, placeText}
 use Rattle.known.specs.Case.{Case, same, right, rowsOf}
 use Rattle.known.specs.Scope.{scopeRows}
 use Rattle.path.specs.Sample.{timesA}
@@ -60,7 +62,7 @@ member (x ∷ cs) h c (List·Memᴰ·head q) = rw q (h .0)
 member (x ∷ cs) h c (List·Memᴰ·tail m) = member cs (h .1) c m
 
 computed : right computedCases ≡ true
-unfolding le leAt timestampOf referenceOf filenameOf recordOf parsed listed recordWords walk from kindByVersion kindOf scanVisit scanned scan judged carverVisitAs carverVisit carving stepAt steps toCome replaces keep given attributeAt filenameIn attributeVisit hasSignature entryJudged imageVisit alone codePoints utf8 decoded
+unfolding le leAt timestampOf referenceOf filenameOf recordOf parsed listed recordWords walk from kindByVersion kindOf scanVisit scanned scan judged carverVisitAs carverVisit carving stepAt steps toCome replaces keep given attributeAt filenameIn attributeVisit hasSignature sound ending rows home restoredBy entryJudged imageVisit inEntry imageBytes imageText placeText unitsAt alone codePoints utf8 decoded
 computed = refl
 
 -- the names of a deep path, as the laws of such paths have them

@@ -41,9 +41,11 @@ timed time nameOffset =
 abbrev pub recordE : List ℕ
 recordE = timed 125911584000000000 60
 
--- the first 44 bytes of an MFT entry: FILE, the sequence at 16, the first attribute's offset at 20, and the flags at 22, a directory in use
-abbrev pub entryHeader : ℕ → ℕ → List ℕ
-entryHeader sequence first = (0x46 ∷ 0x49 ∷ 0x4C ∷ 0x45 ∷ []) ++ replicate 12 0 ++ le 2 sequence ++ le 2 1 ++ le 2 first ++ le 2 3 ++ replicate 20 0
+-- the first 44 bytes of an MFT entry: FILE, the update sequence array's offset at 4 and its count at 6, the sequence at 16, the first attribute's offset at
+-- 20, and the flags at 22, a directory in use
+abbrev pub entryHeader : ℕ → ℕ → ℕ → ℕ → List ℕ
+entryHeader array count sequence first =
+    (0x46 ∷ 0x49 ∷ 0x4C ∷ 0x45 ∷ []) ++ le 2 array ++ le 2 count ++ replicate 8 0 ++ le 2 sequence ++ le 2 1 ++ le 2 first ++ le 2 3 ++ replicate 20 0
 
 -- a resident attribute of type 30h and 96 bytes with a content of 72 at 24: parent 5:5, and from 64 on a name of three units, its namespace, and abc
 abbrev pub nameAttribute : ℕ → List ℕ
@@ -71,6 +73,6 @@ last = 0xFF ∷ 0xFF ∷ 0xFF ∷ 0xFF ∷ []
 abbrev pub padded : List ℕ → List ℕ
 padded s = s ++ replicate (1024 - length s) 0
 
--- entry 42, with sequence 3 and these attributes from 48 on
+-- entry 42, with sequence 3, an update sequence array of three zeros at 48, which end both sectors, and these attributes from 56 on
 abbrev pub entryOf : List ℕ → List ℕ
-entryOf attributes = padded (entryHeader 3 48 ++ le 4 42 ++ attributes ++ last)
+entryOf attributes = padded (entryHeader 48 3 3 56 ++ le 4 42 ++ replicate 8 0 ++ attributes ++ last)

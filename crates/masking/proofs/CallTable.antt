@@ -4,7 +4,7 @@ use Prim.Native.Nat.{ℕ}
 use mathlib.Core.Path.{_≡_, refl}
 use mathlib.Core.List.{List, [], _∷_, _++_, map}
 use lib.ListN.{replicate}
-use Rattle.base.specs.Lists.{every}
+use Rattle.base.specs.Lists.{every, rows}
 use Rattle.base.specs.Outcome.{Outcome, refused, answered}
 use Rattle.base.specs.Refusals.{badState, nameOutside, tableFull, textFull}
 use Rattle.usn_record.specs.Bytes.{le, leAt}
@@ -15,7 +15,7 @@ use Rattle.utf16.specs.Utf16.{alone, codePoints, unitsAt}
 use Rattle.utf16.specs.Utf8.{utf8}
 use Rattle.utf16.specs.Text.{decoded}
 use Rattle.entry_slots.specs.Names.{inside}
-use Rattle.entry_slots.specs.Slots.{sameKey, putAt, findFrom, rows}
+use Rattle.entry_slots.specs.Slots.{sameKey, putAt, findFrom}
 use Rattle.entry_slots.specs.Table.{table, addFound}
 use Rattle.additions.specs.Entries.{hasReason, entryFrom}
 use Rattle.additions.specs.Storing.{addAll, newKeys, adding, storing}

@@ -1,7 +1,7 @@
 -- Run two differs in names that run one got, and all but text is shared. The readers' own two runs give equal lists and records; over these the calls
 -- know the same. Assumes nothing.
 use Prim.Native.Nat.{ℕ}
-use mathlib.Core.Path.{_≡_, ap}
+use mathlib.Core.Path.{_≡_, refl, ap}
 use mathlib.Core.List.{List, []}
 use native.Mathlib.Omega.{arith}
 use lib.ListN.{length}
@@ -30,7 +30,7 @@ use Rattle.masking.proofs.ReplayLaws.{calls-same}
 -- the image carver
 image-shared : (image image′ entries : List ℕ) → Masked image image′ (imageNames image entries) → SharedImage image image′ entries
 image-shared image image′ entries m =
-    let r = image-call imageStandard (omega arith) image image′ entries m in
+    let r = image-call imageStandard (omega arith) refl image image′ entries m in
     record { outcome = r .outcome; words = r .list; carved = r .entries }
 
 -- what is struck out is what 8 refused

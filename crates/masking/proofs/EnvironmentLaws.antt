@@ -5,10 +5,9 @@ use mathlib.Core.Path.{_≡_, refl, ap, _∙_}
 use mathlib.Core.List.{List, [], _∷_, map}
 use native.Mathlib.Omega.{arith}
 use lib.ListN.{length, getD}
-use Rattle.base.specs.Lists.{flatten, placeWords, All}
+use Rattle.base.specs.Lists.{flatten, placeWords, All, rows}
 use Rattle.base.specs.declared.Place.{Place}
 use Rattle.usn_record.specs.Record.{listed}
-use Rattle.entry_slots.specs.Slots.{rows}
 use Rattle.additions.specs.Entries.{entryAt}
 use Rattle.rewind_records.specs.Environment.{environmentOf}
 use Rattle.additions.specs.Walking.{offsetIn, offsetsIn, recordsIn}

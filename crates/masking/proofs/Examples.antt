@@ -36,16 +36,20 @@ use Rattle.usn_window.proofs.CountLaws.{delivery-carries}
 use Rattle.usn_window.proofs.TwoRuns.{fresh-filled}
 use Rattle.mft_attributes.specs.Filename.{replaces, keep}
 use Rattle.mft_attributes.specs.Attributes.{given, attributeAt, filenameIn, attributeVisit}
-use Rattle.mft_carver.specs.Entry.{hasSignature, judged as entryJudged}
+use Rattle.mft_sectors.specs.Signature.{hasSignature}
+use Rattle.mft_sectors.specs.SectorEnds.{ending, sound, home, restoredBy}
+use Rattle.mft_sectors.specs.Stored.{inEntry, imageBytes}
+use Rattle.mft_carver.specs.Entry.{judged as entryJudged}
 use Rattle.mft_carver.specs.Carve.{imageVisit, carving as imageCarving, carvingList as imageList}
 use Rattle.mft_carver.specs.Settings.{standard as imageStandard}
 use Rattle.mft_carver.specs.Masking.{carvedEntries}
-use Rattle.mft_carver.specs.Sample.{sampleEntryHeader, beforeName, abc, last}
+use Rattle.mft_carver.specs.Sample.{across}
 use Rattle.utf16.specs.Utf16.{alone, codePoints, unitsAt}
 use Rattle.utf16.specs.Utf8.{utf8}
 use Rattle.utf16.specs.Text.{decoded}
 use Rattle.entry_slots.specs.Names.{lengths, lengthsOf, inside}
-use Rattle.entry_slots.specs.Slots.{sameKey, putAt, findFrom, rows}
+use Rattle.entry_slots.specs.Slots.{sameKey, putAt, findFrom}
+use Rattle.base.specs.Lists.{rows, every}
 use Rattle.entry_slots.specs.Table.{Table, addFound}
 use Rattle.additions.specs.Storing.{addAll, newKeys, adding}
 use Rattle.entry_slots.specs.declared.EntryKey.{EntryKey}
@@ -57,7 +61,6 @@ use Rattle.path.specs.Alike.{Alike}
 use Rattle.path_text.specs.Decoding.{placing, placeDecoding}
 use Rattle.path.specs.Written.{tracingWithText}
 use Rattle.additions.specs.Entries.{hasReason, entryFrom}
-use Rattle.base.specs.Lists.{every}
 use Rattle.rewind_records.specs.Environment.{rewindRefusal}
 use Rattle.rewind.specs.Starting.{starting}
 use Rattle.rewind_records.specs.Turning.{turning}
@@ -66,7 +69,7 @@ use Rattle.masking.specs.Calls.{sources, kept, State, keptAt, plain, nex
 use Rattle.masking.specs.Calls as call
 use Rattle.masking.specs.Demand.{imageNames, journalNames, SharedRecords, scanner, carver, window, scanPlaces, carverPlaces, windowPlaces, Share}
 use Rattle.masking.proofs.Demand.{names-decide-nothing}
-use Rattle.masking.proofs.Sample.{image}
+use Rattle.masking.proofs.Sample.{nameHomes, units-masked}
 
 -- run one's journal, a record named ab, and run two's, whose first unit is a euro sign, which takes two bytes more in UTF-8
 abbrev pub journal : List ℕ
@@ -78,10 +81,6 @@ journal′ = sampleRecord 0x20AC 0x62
 pub journals-differ : journal′ ≡ journal → ⊥
 journals-differ e = let z : _≡_ {A = ℕ} 0xAC 0x61 = ap (λ (s : List ℕ). getD s 60 0) e in omega arith
 
--- images of one entry, named abc and xyz
-abbrev pub xyz : List ℕ
-xyz = leBytes 2 0x78 ++ leBytes 2 0x79 ++ leBytes 2 0x7A
-
 -- with lists of one record and of one entry
 abbrev pub list : List ℕ
 list = 0 ∷ 0 ∷ []
@@ -89,12 +88,22 @@ list = 0 ∷ 0 ∷ []
 abbrev pub entries : List ℕ
 entries = replicate 9 0
 
-pub image-names : imageNames (image abc) entries ≡ record { offset = 138; length = 6 } ∷ []
-unfolding imageCarving from walk imageVisit hasSignature entryJudged filenameIn attributeVisit attributeAt given keep replaces referenceOf leAt le
+-- images of one entry whose name has a b at the end of a sector in run one, and a euro sign in run two
+abbrev pub image : List ℕ
+image = across 0x62
+
+abbrev pub image′ : List ℕ
+image′ = across 0x20AC
+
+image-names : imageNames image entries ≡ nameHomes
+unfolding imageCarving from walk imageVisit hasSignature sound ending rows home restoredBy entryJudged filenameIn attributeVisit attributeAt given keep replaces referenceOf leAt le
 image-names = refl
 
-pub images-masked : Masked (image abc) (image xyz) (imageNames (image abc) entries)
-images-masked = rw image-names (masked-middle (sampleEntryHeader 3 48 ++ leBytes 4 42 ++ beforeName 1) abc xyz (last ++ replicate 876 0) refl)
+pub images-masked : Masked image image′ (imageNames image entries)
+images-masked = rw image-names units-masked
+
+pub images-differ : image′ ≡ image → ⊥
+images-differ e = let z : _≡_ {A = ℕ} 0xAC 0x62 = ap (λ (s : List ℕ). getD s 50 0) e in omega arith
 
 -- the name of the one record
 abbrev pub name : List Place
@@ -108,8 +117,8 @@ scan-names : journalNames journal (scanPlaces journal list) ≡ name
 unfolding scan scanned from walk scanVisit kindOf kindByVersion nameAt listed parsed recordOf filenameOf leAt le
 scan-names = refl
 
-pub scan-runs : Share (scanner list) journal journal′ (image abc) (image xyz) entries
-scan-runs = names-decide-nothing .shares (scanner list) journal journal′ (image abc) (image xyz) entries (record { images = images-masked; journals = rw scan-names masked; asked = tt })
+pub scan-runs : Share (scanner list) journal journal′ image image′ entries
+scan-runs = names-decide-nothing .shares (scanner list) journal journal′ image image′ entries (record { images = images-masked; journals = rw scan-names masked; asked = tt })
 
 -- the carver
 carver-names : journalNames journal (carverPlaces journal list) ≡ name
@@ -123,9 +132,9 @@ if-answered : {A : Type 0} (o : Outcome A) {P : Type 0} → P → IfAnswered o P
 if-answered (refused n) h = tt
 if-answered (answered a) h = h
 
-pub carver-runs : Share (carver list) journal journal′ (image abc) (image xyz) entries
+pub carver-runs : Share (carver list) journal journal′ image image′ entries
 carver-runs =
-    names-decide-nothing .shares (carver list) journal journal′ (image abc) (image xyz) entries
+    names-decide-nothing .shares (carver list) journal journal′ image image′ entries
     (record { images = images-masked; journals = rw carver-names masked; asked = if-answered (carving standard journal 2) (rw E-carved lone) })
 
 -- The window: ask; give a byte x with a buffer of no bytes, which 11 refuses, so that x may be anything; give the whole journal; ask twice.
@@ -153,9 +162,9 @@ module _ (b c : List ℕ) (eb : length b ≡ windowSize) (ec : length c ≡ wind
       (run-journal journal (calls 7 journal) (freshOver journal b) (fresh-filled journal b eb) (delivery-carries journal b (calls 7 journal) (carries 7 journal b refl eb)))
       ∙ ap (journalNames journal) given-one
 
-  pub window-runs : Share (window b c (calls 7 journal) (calls 8 journal′)) journal journal′ (image abc) (image xyz) entries
+  pub window-runs : Share (window b c (calls 7 journal) (calls 8 journal′)) journal journal′ image image′ entries
   window-runs =
-      names-decide-nothing .shares (window b c (calls 7 journal) (calls 8 journal′)) journal journal′ (image abc) (image xyz) entries
+      names-decide-nothing .shares (window b c (calls 7 journal) (calls 8 journal′)) journal journal′ image image′ entries
       (record {
         images = images-masked;
         journals = rw window-names masked;
@@ -166,11 +175,11 @@ module _ (b c : List ℕ) (eb : length b ≡ windowSize) (ec : length c ≡ wind
 abbrev place : NamePlace
 place = record { source = 0; offset = 60; length = 4 }
 
-pub texts : (placeText journal (image abc) place ≡ 0x61 ∷ 0x62 ∷ []) × (placeText journal′ (image xyz) place ≡ 0xE2 ∷ 0x82 ∷ 0xAC ∷ 0x62 ∷ [])
+pub texts : (placeText journal image place ≡ 0x61 ∷ 0x62 ∷ []) × (placeText journal′ image′ place ≡ 0xE2 ∷ 0x82 ∷ 0xAC ∷ 0x62 ∷ [])
 unfolding placeText decoded codePoints alone utf8 unitsAt leAt le
 texts = (refl, refl)
 
-pub decoded-in-one : (placeDecoding journal (image abc) place 2 ≡ answered place) × (placeDecoding journal′ (image xyz) place 2 ≡ refused textFull)
+pub decoded-in-one : (placeDecoding journal image place 2 ≡ answered place) × (placeDecoding journal′ image′ place 2 ≡ refused textFull)
 unfolding placing inDomain inside placeText decoded codePoints alone utf8 unitsAt leAt le
 decoded-in-one = (refl, refl)
 
@@ -180,10 +189,10 @@ abbrev empty : State
 empty = record { tables = kept (replicate 7 0) 0 0 ∷ kept (replicate 7 9) 0 0 ∷ []; chain = [] }
 
 abbrev one : List Done
-one = results (sources journal (image abc) (scanPlaces journal list)) (plain (start 0 1) ∷ nextText 1 4 ∷ []) empty
+one = results (sources journal image (scanPlaces journal list)) (plain (start 0 1) ∷ nextText 1 4 ∷ []) empty
 
 abbrev two : List Done
-two = results (sources journal′ (image xyz) (scanPlaces journal′ list)) (plain (start 0 1) ∷ nextText 1 4 ∷ nextText 1 6 ∷ []) empty
+two = results (sources journal′ image′ (scanPlaces journal′ list)) (plain (start 0 1) ∷ nextText 1 4 ∷ nextText 1 6 ∷ []) empty
 
 left-one : plainsOf (struck one) ≡ start 0 1 ∷ call.next 1 ∷ []
 unfolding scan scanned from walk scanVisit kindOf kindByVersion startResult nextResult starting rewindRefusal turning adding addAll addFound putAt newKeys findFrom sameKey every inside rows hasReason entryFrom chain isRoot withPlaces recordText pathText endText stepText placeText decoded codePoints alone utf8 unitsAt listed parsed recordOf referenceOf filenameOf leAt le
@@ -203,9 +212,9 @@ pub rewound : resultsOf (struck two) ≡ resultsOf (struck one)
 rewound = scan-runs .later .calls empty (plain (start 0 1) ∷ nextText 1 4 ∷ []) (plain (start 0 1) ∷ nextText 1 4 ∷ nextText 1 6 ∷ []) (left-two ∙ sym left-one)
 
 -- What the runs share, written out: by the image carver, by the scan and the carver with their lists, and by paths, chains and names over any table.
-pub image-written : (imageCarving imageStandard (image xyz) 9 ≡ imageCarving imageStandard (image abc) 9)
-    × ((imageList imageStandard (image xyz) entries ≡ imageList imageStandard (image abc) entries)
-    × (carvedEntries imageStandard (image xyz) 9 ≡ carvedEntries imageStandard (image abc) 9))
+pub image-written : (imageCarving imageStandard image′ 9 ≡ imageCarving imageStandard image 9)
+    × ((imageList imageStandard image′ entries ≡ imageList imageStandard image entries)
+    × (carvedEntries imageStandard image′ 9 ≡ carvedEntries imageStandard image 9))
 image-written = (scan-runs .imageCarver .outcome, (scan-runs .imageCarver .words, scan-runs .imageCarver .carved))
 
 pub scan-written : (scanAnswer journal′ 2 ≡ scanAnswer journal 2) × ((scanList journal′ list ≡ scanList journal list) × (scanPlaces journal′ list ≡ scanPlaces journal list))
@@ -223,11 +232,11 @@ pub carver-written : (carving standard journal′ 2 ≡ carving standard journal
 carver-written = (carver-runs .reader .answer, (carver-runs .reader .words, carver-runs .listed-same))
 
 module _ (u : Table) (depth : ℕ) (k : EntryKey) where
-  pub path-written : (room room′ : ℕ) → Alike (tracing (lengths 64 1024) u depth k) (tracingWithText journal (image abc) u depth k room) (tracingWithText journal′ (image xyz) u depth k room′)
+  pub path-written : (room room′ : ℕ) → Alike (tracing (lengths 64 1024) u depth k) (tracingWithText journal image u depth k room) (tracingWithText journal′ image′ u depth k room′)
   path-written room room′ = scan-runs .later .path u depth k room room′
 
-  pub chain-written : (l : List ℕ) → chainAfter (tracing (lengthsOf journal′ (image xyz)) u depth k) l ≡ chainAfter (tracing (lengthsOf journal (image abc)) u depth k) l
+  pub chain-written : (l : List ℕ) → chainAfter (tracing (lengthsOf journal′ image′) u depth k) l ≡ chainAfter (tracing (lengthsOf journal image) u depth k) l
   chain-written l = scan-runs .later .chainList u depth k l
 
-pub decode-written : (p : NamePlace) (room room′ : ℕ) → Alike (placing (lengths 64 1024) p) (placeDecoding journal (image abc) p room) (placeDecoding journal′ (image xyz) p room′)
+pub decode-written : (p : NamePlace) (room room′ : ℕ) → Alike (placing (lengths 64 1024) p) (placeDecoding journal image p room) (placeDecoding journal′ image′ p room′)
 decode-written p room room′ = scan-runs .later .decode p room room′

@@ -18,11 +18,9 @@ use Rattle.usn_window.specs.declared.Reading.{Reading}
 use Rattle.usn_window.proofs.RunLaws.{journalReading, journalReadings, run-journal}
 use Rattle.usn_window.proofs.CountLaws.{delivery-carries}
 use Rattle.usn_window.proofs.TwoRuns.{fresh-filled}
-use Rattle.mft_carver.specs.Sample.{abc}
 use Rattle.masking.specs.Demand.{journalNames, window, windowPlaces, Share}
 use Rattle.masking.proofs.Demand.{names-decide-nothing}
-use Rattle.masking.proofs.Sample.{image}
-use Rattle.masking.proofs.Examples.{journal, journal′, xyz, entries, name, masked, images-masked}
+use Rattle.masking.proofs.Examples.{journal, journal′, image, image′, entries, name, masked, images-masked}
 
 -- ask, get the first byte, get the others, ask twice
 abbrev pieces : List ℕ → List Call
@@ -57,9 +55,9 @@ module _ (b c : List ℕ) (eb : length b ≡ windowSize) (ec : length c ≡ wind
       (run-journal journal (pieces journal) (freshOver journal b) (fresh-filled journal b eb) (delivery-carries journal b (pieces journal) (carries 0x61 b eb)))
       ∙ ap (journalNames journal) given-one
 
-  pub piece-runs : Share (window b c (pieces journal) (pieces journal′)) journal journal′ (image abc) (image xyz) entries
+  pub piece-runs : Share (window b c (pieces journal) (pieces journal′)) journal journal′ image image′ entries
   piece-runs =
-      names-decide-nothing .shares (window b c (pieces journal) (pieces journal′)) journal journal′ (image abc) (image xyz) entries
+      names-decide-nothing .shares (window b c (pieces journal) (pieces journal′)) journal journal′ image image′ entries
       (record {
         images = images-masked;
         journals = rw names masked;

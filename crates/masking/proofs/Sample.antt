@@ -1,23 +1,23 @@
--- What the examples are made of: records of both versions, images of one entry, and lists of bytes beside themselves.
+-- What the examples are made of: records of both versions, images of one entry that differ in a unit at a sector's end, and lists of bytes beside themselves.
 use Prim.Native.Nat.{ℕ}
 use mathlib.Core.Path.{refl}
 use mathlib.Core.List.{List, [], _∷_, _++_}
-use lib.ListN.{replicate}
+use Rattle.base.specs.Lists.{rows}
 use Rattle.base.specs.Masked.{Masked}
 use Rattle.base.specs.declared.Place.{Place}
+use Rattle.base.proofs.MaskedLaws.{masked-middle}
+use Rattle.base.proofs.RowLaws.{masked-bytes}
 use Rattle.usn_record.specs.Bytes.{leBytes}
 use Rattle.usn_record.specs.Sample.{sampleHeader, reference}
-use Rattle.mft_carver.specs.Sample.{sampleEntryHeader as entryHeader, beforeName, last}
+use Rattle.mft_carver.specs.Sample.{beforeUnit, behindUnit, across}
+use Rattle.mft_sectors.specs.Homes.{byteAt}
 use Rattle.entry_slots.specs.declared.EntryKey.{EntryKey}
 use Rattle.entry_slots.specs.declared.EntryInfo.{EntryInfo}
 use Rattle.entry_slots.specs.declared.NamePlace.{NamePlace}
 
--- a name of two units, and one of three
+-- a name of two units
 abbrev pub units : ℕ → ℕ → List ℕ
 units a b = leBytes 2 a ++ leBytes 2 b
-
-abbrev pub units3 : ℕ → ℕ → ℕ → List ℕ
-units3 a b c = leBytes 2 a ++ leBytes 2 b ++ leBytes 2 c
 
 -- what follows the references of a record: USN 4096, the start of 2000, a reason, and a name of 4 bytes at an offset
 abbrev fields : ℕ → ℕ → List ℕ
@@ -32,10 +32,6 @@ fixed2 file parent reason = sampleHeader 64 2 ++ (file ++ (parent ++ fields reas
 
 abbrev pub fixed3 : ℕ → ℕ → ℕ → List ℕ
 fixed3 file parent reason = sampleHeader 80 3 ++ (leBytes 16 file ++ (leBytes 16 parent ++ fields reason 76))
-
--- an image of one entry, 42:3 in the root, with a name of three units
-abbrev pub image : List ℕ → List ℕ
-image name = (entryHeader 3 48 ++ leBytes 4 42 ++ beforeName 1) ++ (name ++ (last ++ replicate 876 0))
 
 abbrev pub key : ℕ → ℕ → EntryKey
 key entry sequence = record { entry = entry; sequence = sequence }
@@ -54,3 +50,13 @@ unchanged s ps = record { long = refl; same = λ i _. refl }
 -- what differs in these places differs in one more
 pub one-more : (s t : List ℕ) (p : Place) (ps : List Place) → Masked s t ps → Masked s t (p ∷ ps)
 one-more s t p ps m = record { long = m .long; same = λ i a. m .same i (a .1) }
+
+-- where the name of the entry is stored, at 508 but for the unit at the end of the first sector, which stands at 50; and images that differ in that unit
+abbrev pub nameHomes : List Place
+nameHomes = byteAt 508 ∷ byteAt 509 ∷ byteAt 50 ∷ byteAt 51 ∷ byteAt 512 ∷ byteAt 513 ∷ []
+
+pub units-masked : Masked (across 0x62) (across 0x20AC) nameHomes
+unfolding rows
+units-masked =
+    let m = masked-bytes 50 2 (masked-middle beforeUnit (leBytes 2 0x62) (leBytes 2 0x20AC) behindUnit refl) in
+    record { long = m .long; same = λ i h. m .same i (h .1 .1 .0, (h .1 .1 .1 .0, tt)) }

@@ -1,5 +1,5 @@
 -- Names decide nothing but text: one claim, `NamesDecideNothing`, at the end. Run one reads a journal and an image; run two the same bytes, but for units
--- that are replaced, one for one, in names that run one got: from the image carver, or from the reader at hand, the scan, the carver or the
+-- that are replaced, one for one, in names that run one got: from the image carver, where they are stored in the image, or from the reader at hand, the scan, the carver or the
 -- window, past the fixed parts of their records. `Differ` says what may differ, `Share` all that both runs share then. What run two reads is
 -- primed. Lent lists, keys, places and entries are the same in both runs; texts are free.
 use Prim.Native.Nat.{ℕ}
@@ -23,7 +23,7 @@ use Rattle.usn_window.specs.Run.{readings, givenBy, freshOver, shapes, Call as 
 use Rattle.usn_window.specs.Owed.{Delivery}
 use Rattle.mft_carver.specs.Settings.{standard as imageStandard}
 use Rattle.mft_carver.specs.Carve.{carving as imageCarving, carvingList as imageList}
-use Rattle.mft_carver.specs.Masking.{carvedEntries, carvedNames}
+use Rattle.mft_carver.specs.Masking.{carvedEntries, carvedHomes}
 use Rattle.entry_slots.specs.Names.{lengthsOf}
 use Rattle.entry_slots.specs.Table.{Table}
 use Rattle.entry_slots.specs.declared.EntryKey.{EntryKey}
@@ -35,9 +35,10 @@ use Rattle.path.specs.Written.{tracingWithText}
 use Rattle.masking.specs.Calls.{Sources, sources, State, Call, resultOf, results, isStruck, struck, plainsOf, resultsOf}
 use Rattle.masking.specs.Contracts.{ListsAreCalls}
 
--- the names that the image carver of run one got with this list: those of the entries that it listed, none where it was refused
+-- where the names are stored that the image carver of run one got with this list, those of the entries that it listed, none where it was refused: each byte of
+-- a name where it lies, or, at the end of a sector, in the entry's update sequence array
 abbrev pub imageNames : List ℕ → List ℕ → List Place
-imageNames image entries = carvedNames imageStandard image (length entries)
+imageNames image entries = carvedHomes imageStandard image (length entries)
 
 -- the names of the records at these places of a journal, past their fixed parts: the offset field is at least 60 in version 2, 76 in version 3
 abbrev pub journalNames : List ℕ → List Place → List Place

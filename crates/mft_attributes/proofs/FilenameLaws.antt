@@ -60,9 +60,9 @@ module _ (e : List ℕ) {c : ℕ} {k : Kept} (w : keptAt e c ≡ k) where
 pub record Keeping (e : List ℕ) (first walked : ℕ) (k : Kept) (a n : ℕ) : Type 0 where
   pub whole : keepAll k (attributesIn n e a) ≡ filenameIn walked e first
 
-pub keeping-start : (e : List ℕ) (first walked : ℕ) → Keeping e first walked (keptAt e (length e)) first walked
+pub keeping-start : (e : List ℕ) (first walked : ℕ) {n : ℕ} → length e ≤ n → Keeping e first walked (keptAt e n) first walked
 unfolding filenameIn keptAt
-keeping-start e first walked = record { whole = simp (le-ltb (length e) (length e) (omega arith)) }
+keeping-start e first walked h = record { whole = simp (le-ltb _ _ h) }
 
 module _ {e : List ℕ} {first walked : ℕ} {k : Kept} {a n : ℕ} (w : Keeping e first walked k a n) where
   -- no more are walked

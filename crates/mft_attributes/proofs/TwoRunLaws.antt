@@ -130,9 +130,9 @@ keepAll-apart k [] i h g = h
 keepAll-apart k (other ∷ xs) i h g = keepAll-apart k xs i h g
 keepAll-apart k (named f ∷ xs) i h g = keepAll-apart (keep k f) xs i (keep-apart k f i h (g .0, tt)) (g .1)
 
--- entries that differ in the name alone that is kept of the first keep the same name
-pub filename-two-runs : (e d : List ℕ) → length d ≡ length e → (n a : ℕ) → ((i : ℕ) → Apart (keptName (filenameIn n e a)) i → getD d i 0 ≡ getD e i 0)
+-- entries that differ, from the first attribute on, in the name alone that is kept of the first keep the same name
+pub filename-two-runs : (e d : List ℕ) → length d ≡ length e → (n a : ℕ) → ((i : ℕ) → a ≤ i → Apart (keptName (filenameIn n e a)) i → getD d i 0 ≡ getD e i 0)
     → filenameIn n d a ≡ filenameIn n e a
 unfolding filenameIn
 filename-two-runs e d long n a m =
-    ap (keepAll Nothing) (attributes-two-runs e d long n a (λ i _ h. m i (keepAll-apart Nothing (attributesIn n e a) i tt h)))
+    ap (keepAll Nothing) (attributes-two-runs e d long n a (λ i l h. m i l (keepAll-apart Nothing (attributesIn n e a) i tt h)))

@@ -1,12 +1,13 @@
 -- What the answers of the inner functions say.
-use Prim.Native.Nat.{ℕ}
+use Prim.Native.Nat.{ℕ, _+_}
+use mathlib.Core.Path.{_≡_}
 use mathlib.Core.List.{List, [], _∷_}
 use mathlib.Core.Bool.{cond}
 use lib.ListN.{length}
 use lib.Dec.{ltb}
 use Rattle.base.specs.Walk.{Visit, stop, go}
-use Rattle.mft_attributes.specs.Filename.{Attribute, other, named}
-use Rattle.mft_attributes.specs.Attributes.{contentAt, contentFilename}
+use Rattle.mft_attributes.specs.Filename.{Attribute, other, named, keep}
+use Rattle.mft_attributes.specs.Attributes.{attributeHeaderAt, contentAt, contentFilename, attributeAt}
 use Rattle.mft_attributes.specs.declared.filename.Filename.{Filename}
 use Rattle.mft_attributes.specs.declared.filename.Kept.{Kept}
 use Rattle.mft_attributes.specs.declared.filename.Kept.the-variants.{Nothing, Name}
@@ -26,3 +27,11 @@ abbrev pub attributeOf : List ℕ → AttributeStep → Visit Attribute
 attributeOf e End = stop
 attributeOf e (Other p) = go (other ∷ []) p
 attributeOf e (Named c p) = go (named (filenameAt e c) ∷ []) p
+
+-- the attribute of so many bytes at a is passed
+abbrev pub Walked : List ℕ → ℕ → ℕ → AttributeStep → Type 0
+Walked e a size r = attributeOf e r ≡ go (attributeAt e a (attributeHeaderAt e a) ∷ []) (a + size)
+
+-- of the content at best, if there is one, and that at c the one is taken whose name is kept
+abbrev pub Better : List ℕ → ℕ → ℕ → ℕ → Type 0
+Better e best c r = keptAt e r ≡ keep (keptAt e best) (filenameAt e c)

@@ -4,3 +4,4 @@ pub mod FillLaws
 pub mod CallLaws
 pub mod ImageTwoRuns
 pub mod Examples
+pub mod DecodedLaws

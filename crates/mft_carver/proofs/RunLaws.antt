@@ -13,7 +13,8 @@ use Rattle.base.proofs.AgreeLaws.{part-lent}
 use Rattle.base.proofs.ChoiceLaws.{cond-cases}
 use Rattle.base.proofs.WalkLaws.{Forward, Costs, walk-bound, Left, left}
 use Rattle.mft_carver.specs.declared.Settings.{Settings}
-use Rattle.mft_carver.specs.Entry.{hasSignature, Event, rejected, carved, judged}
+use Rattle.mft_sectors.specs.Signature.{hasSignature}
+use Rattle.mft_carver.specs.Entry.{Event, rejected, carved, judged}
 use Rattle.mft_carver.specs.Carve.{entryBytes, eventsAt, imageVisit, events, entries, rejections, entriesIn}
 use Rattle.mft_carver.specs.Step.{eventOf, imageVisitOf}
 use Rattle.mft_carver.specs.declared.entry.Candidate.{Candidate}

@@ -9,14 +9,15 @@ use Rattle.base.specs.Lists.{flatten, listAfter}
 use Rattle.base.specs.Places.{part}
 use Rattle.base.specs.Refusals.{aboveDomain, listFull, domain}
 use Rattle.base.specs.Walk.{Visit, stop, go, from}
+use Rattle.mft_sectors.specs.Signature.{hasSignature}
 use Rattle.mft_carver.specs.declared.Settings.{Settings}
-use Rattle.mft_carver.specs.Entry.{hasSignature, Event, rejected, carved, judged}
+use Rattle.mft_carver.specs.Entry.{Event, rejected, carved, judged}
 use Rattle.mft_carver.specs.declared.CarvedMftEntry.{CarvedMftEntry}
 use Rattle.mft_carver.specs.declared.MftCarving.{MftCarving}
 use Rattle.mft_carver.specs.declared.MftCarving.the-variants.{Carved, Refused}
 use Rattle.mft_carver.specs.declared.MftCarvingStats.{MftCarvingStats}
 
--- the bytes of the entry at o, with the ends of its sectors as stored
+-- the bytes of the entry at o, as stored
 abbrev pub entryBytes : Settings → List ℕ → ℕ → List ℕ
 entryBytes st s o = part s o (st .size)
 

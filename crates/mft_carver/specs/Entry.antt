@@ -1,29 +1,17 @@
--- One MFT entry: its signature, its header, and what becomes of it.
-use Prim.Native.Nat.{ℕ, _+_, _/_, _%_}
-use mathlib.Core.List.{List, [], _∷_}
-use mathlib.Core.Bool.{Bool, true, cond, _&&_, _||_}
+-- One MFT entry: its header, and what becomes of it.
+use Prim.Native.Nat.{ℕ, _/_, _%_}
+use mathlib.Core.List.{List}
+use mathlib.Core.Bool.{Bool, cond, _||_}
 use lib.Dec.{ltb, eqb}
 use Rattle.base.specs.Places.{placeFrom}
 use Rattle.usn_record.specs.Bytes.{leAt}
 use Rattle.mft_carver.specs.declared.Settings.{Settings}
+use Rattle.mft_sectors.specs.SectorEnds.{sound, restored}
 use Rattle.mft_attributes.specs.Attributes.{filenameIn}
 use Rattle.mft_carver.specs.declared.CarvedMftEntry.{CarvedMftEntry}
 use Rattle.mft_attributes.specs.declared.filename.Filename.{Filename}
 use Rattle.mft_attributes.specs.declared.filename.Kept.{Kept}
 use Rattle.mft_attributes.specs.declared.filename.Kept.the-variants.{Nothing, Name}
-
--- the bytes FILE, with which an entry begins
-abbrev pub signature : List ℕ
-signature = 0x46 ∷ 0x49 ∷ 0x4C ∷ 0x45 ∷ []
-
--- these bytes stand at o
-abbrev pub spells : List ℕ → List ℕ → ℕ → Bool
-spells [] s o = true
-spells (x ∷ xs) s o = eqb (leAt 1 s o) x && spells xs s (o + 1)
-
--- a candidate begins with the signature
-unfoldable pub hasSignature : List ℕ → Bool
-hasSignature e = spells signature e 0
 
 -- an entry's header
 pub record EntryHeader : Type 0 where
@@ -71,8 +59,9 @@ abbrev pub byName : ℕ → EntryHeader → Kept → Event
 byName o h Nothing = rejected o
 byName o h (Name f) = carved (entryOf o h f)
 
--- what becomes of the candidate e, which stands at o of an image
+-- what becomes of the candidate e, which stands at o of an image: with a good header and a sound array its name is that of the restored entry
 unfoldable pub judged : Settings → ℕ → List ℕ → Event
 judged st o e =
     let h = entryHeaderOf e in
-    cond (badHeader st h) (rejected o) (byName o h (filenameIn (st .walked) e (h .first)))
+    cond (badHeader st h) (rejected o)
+    (cond (sound e) (byName o h (filenameIn (st .walked) (restored e) (h .first))) (rejected o))

@@ -1,9 +1,9 @@
-// One entry of an image: its signature, its header and its name.
+// One entry of an image: its header, its update sequence array and its name.
 ghost use mathlib.Core.Path.{_≡_};
 ghost use Prim.Native.Nat.{_+_, _≤_};
 ghost use lib.ListN.{length};
 ghost use Rattle.base.specs.Refusals.{domain};
-ghost use Rattle.mft_carver.specs.Entry.{hasSignature, judged};
+ghost use Rattle.mft_carver.specs.Entry.{judged};
 ghost use Rattle.mft_carver.specs.Step.{eventOf};
 use crate::CarvedMftEntry;
 use crate::Settings;
@@ -11,7 +11,7 @@ use base::Place;
 use mft_attributes::attributes::best_filename;
 use mft_attributes::filename::Filename;
 use mft_attributes::filename::Kept;
-use usn_record::bytes::byte_at;
+use mft_sectors::sound::is_sound;
 use usn_record::bytes::le_u16;
 use usn_record::bytes::le_u32;
 
@@ -19,23 +19,6 @@ use usn_record::bytes::le_u32;
 pub enum Candidate {
     Rejected,
     Carved(CarvedMftEntry),
-}
-
-// Whether an entry begins with the bytes FILE.
-pub(crate) fn has_signature(entry: &[u8]) -> bool
-    ensures { λ r. ⌜ r ≡ hasSignature (now (entry .entry)) ⌝ }
-{
-    let file = b"FILE";
-    if byte_at(entry, 0) != file[0] {
-        return false;
-    }
-    if byte_at(entry, 1) != file[1] {
-        return false;
-    }
-    if byte_at(entry, 2) != file[2] {
-        return false;
-    }
-    byte_at(entry, 3) == file[3]
 }
 
 // The candidate that stands at an offset of an image.
@@ -54,7 +37,10 @@ pub(crate) fn try_carve_entry(entry: &[u8], offset: usize, settings: Settings) -
     if settings.first_high < first {
         return Candidate::Rejected;
     }
-    match best_filename(entry, first, settings.walked) {
+    if !is_sound(entry) {
+        return Candidate::Rejected;
+    }
+    match best_filename(entry, le_u16(entry, 4), first, settings.walked) {
         Kept::Nothing => Candidate::Rejected,
         Kept::Name(name) => {
             let flags = le_u16(entry, 22);

@@ -1,5 +1,5 @@
-// Carving of MFT entries from an image, such as a disk's unallocated space: what each entry says of its file or folder, with
-// its name as a place in the image.
+// Carving of MFT entries from an image, such as a disk's unallocated space: what each entry, with the true ends of its sectors, says
+// of its file or folder, with its name as a place in the image.
 //
 // Every function here is proved. The call has no `requires`: any image and any list get an answer.
 mod entry;
@@ -70,8 +70,8 @@ pub enum MftCarving {
     Refused(u32),
 }
 
-// The entries found at each 1024th byte that have the signature, a sound header and a name. Nine words each go to the front of
-// the list: offset, entry number, sequence, the name's offset and its length in bytes, the parent's entry and sequence, and 1
+// The entries found at each 1024th byte that have the signature, a good header, a sound update sequence array and a name. The ends of
+// the sectors are restored first: parent and name are those of the restored entry. Nine words each go to the front of the list: offset, entry number, sequence, the name's offset and its length in bytes, the parent's entry and sequence, and 1
 // or 0 for a directory and for in use. The words after them are left alone.
 // Refused, with nothing written: 1 the image is above the domain, 5 there are more entries than the list has room for.
 pub fn carve_mft_entries(image: &[u8], list: &mut [u64]) -> MftCarving

@@ -8,8 +8,8 @@ ghost use Rattle.mft_carver.specs.Step.{imageVisitOf};
 use crate::CarvedMftEntry;
 use crate::Settings;
 use crate::entry::Candidate;
-use crate::entry::has_signature;
 use crate::entry::try_carve_entry;
+use mft_sectors::signature::has_signature;
 
 // What a visit says, with the offset of the next one: the image ends, no candidate stands here, or one that is rejected or
 // carved.

@@ -17,6 +17,7 @@ use Rattle.chain.specs.Way.{wayPlaces, stepBound, namesBound, chainBy}
 use Rattle.chain.specs.declared.way.Climbed.{Climbed}
 use Rattle.chain.proofs.WayLaws.{places-less, places-none, bound-short}
 use Rattle.path_text.specs.Text.{endText, placeText, stepText, namesText, pathText}
+use Rattle.path_text.proofs.ImageLaws.{image-most}
 use Rattle.path_text.proofs.NameLaws.{Sources, step-long, journal-text, image-text, inside-short}
 use Rattle.path.specs.Ways.{entryText}
 use Rattle.path.specs.Promise.{WayAsks}
@@ -76,7 +77,7 @@ module _ (journal image : List ℕ) where
       where
         go : (b : Bool) → eqb (p .source) 0 ≡ b → length (stepText journal image p) ≤ 1 + 3 * (p .length / 2)
         go true s = omega (arith, step-long journal image p, ap length (journal-text journal image p (eqb-true (p .source) 0 s)), name-most journal (w .journalBytes) (p .offset) (p .length))
-        go false s = omega (arith, step-long journal image p, ap length (image-text journal image p (eqb-false (p .source) 0 s)), name-most image (w .imageBytes) (p .offset) (p .length))
+        go false s = omega (arith, step-long journal image p, ap length (image-text journal image p (eqb-false (p .source) 0 s)), image-most image (p .offset) (p .length) (w .imageBytes))
 
     pub step-enough : (p : NamePlace) → inside (lengthsOf journal image) p ≡ true → length (stepText journal image p) ≤ stepBound p
     step-enough p h =

@@ -1,7 +1,7 @@
 -- Paths of small tables, computed: the root, an unknown key, a folder that is its own parent, and text that just fits. Assumes nothing.
 use mathlib.Core.Path.{_≡_, refl}
 use mathlib.Core.List.{[], _∷_, _++_}
-use Rattle.base.specs.Lists.{every}
+use Rattle.base.specs.Lists.{every, rows}
 use Rattle.base.specs.Refusals.{textFull}
 use Rattle.usn_record.specs.Bytes.{le, leAt}
 use Rattle.utf16.specs.Utf16.{alone, codePoints, unitsAt}
@@ -9,7 +9,7 @@ use Rattle.utf16.specs.Utf8.{utf8}
 use Rattle.utf16.specs.Text.{decoded}
 use Rattle.utf16.specs.Decimal.{digits}
 use Rattle.entry_slots.specs.Names.{inside}
-use Rattle.entry_slots.specs.Slots.{sameKey, findFrom, rows}
+use Rattle.entry_slots.specs.Slots.{sameKey, findFrom}
 use Rattle.chain.specs.Chain.{isRoot, chain}
 use Rattle.chain.specs.Tracing.{inDomain, tracing}
 use Rattle.path_text.specs.Text.{unknownWord, unresolvedWord, keyText, endText, placeText, stepText, pathText}

@@ -10,7 +10,7 @@ use borrow.Author.Tests.{ne-eqb, eqb-true, eqb-false, le-ltb}
 use lib.ListN.{length, getD, List·getD-append}
 use lib.Seq.{getD-append-add}
 use lib.Dec.{eqb}
-use Rattle.base.specs.Lists.{every}
+use Rattle.base.specs.Lists.{every, rows}
 use Rattle.base.specs.Outcome.{Outcome, answered, outcomeWords}
 use Rattle.usn_record.specs.Bytes.{le, leAt}
 use Rattle.utf16.specs.Utf16.{alone, codePoints, unitsAt}
@@ -18,7 +18,7 @@ use Rattle.utf16.specs.Utf8.{utf8}
 use Rattle.utf16.specs.Text.{decoded}
 use Rattle.utf16.specs.Decimal.{digits}
 use Rattle.entry_slots.specs.Names.{lengths, inside, allInside}
-use Rattle.entry_slots.specs.Slots.{sameKey, keyAt, infoAt, slotName, findFrom, rows}
+use Rattle.entry_slots.specs.Slots.{sameKey, keyAt, infoAt, slotName, findFrom}
 use Rattle.entry_slots.specs.declared.EntryKey.{EntryKey}
 use Rattle.entry_slots.specs.declared.EntryInfo.{EntryInfo}
 use Rattle.entry_slots.specs.declared.NamePlace.{NamePlace}

@@ -1,3 +1,5 @@
 pub mod MarkerLaws
+pub mod ImageLaws
 pub mod NameLaws
 pub mod CallLaws
+pub mod Examples

@@ -8,11 +8,13 @@ use borrow.Author.Tests.{eq-eqb, ne-eqb, leb-true, eqb-true, eqb-false}
 use lib.ListN.{length, length-append, getD}
 use lib.Dec.{eqb}
 use Rattle.base.specs.Refusals.{domain}
+use Rattle.base.proofs.ChoiceLaws.{cond-cases}
 use Rattle.utf16.specs.Text.{nameText}
 use Rattle.utf16.proofs.TextLaws.{name-most, name-least}
-use Rattle.entry_slots.specs.Names.{sourceOf, lengthsOf, lengthOf, inside}
+use Rattle.entry_slots.specs.Names.{lengthsOf, lengthOf, inside}
 use Rattle.entry_slots.specs.declared.NamePlace.{NamePlace}
-use Rattle.path_text.specs.Text.{placeText, stepText, stepMost}
+use Rattle.path_text.specs.Text.{imageText, placeText, stepText, stepMost}
+use Rattle.path_text.proofs.ImageLaws.{image-least, image-most}
 
 module _ (journal image : List ℕ) (p : NamePlace) where
   -- the name lies in the journal
@@ -27,7 +29,7 @@ module _ (journal image : List ℕ) (p : NamePlace) where
 
   -- the name lies in the image
   module _ (s : p .source ≡ 0 → ⊥) where
-    pub image-text : placeText journal image p ≡ nameText image (p .offset) (p .length)
+    pub image-text : placeText journal image p ≡ imageText image (p .offset) (p .length)
     unfolding placeText
     image-text = simp (ne-eqb _ _ s)
 
@@ -62,12 +64,13 @@ step-most journal image p w e = go (eqb (p .source) 0) refl
         omega (arith, step-long journal image p, ap length (journal-text journal image p z), journal-inside journal image p z e, name-most journal (w .journalBytes) (p .offset) (p .length), w .journalLong)
     go false s =
         let z = eqb-false (p .source) 0 s in
-        omega (arith, step-long journal image p, ap length (image-text journal image p z), image-inside journal image p z e, name-most image (w .imageBytes) (p .offset) (p .length), w .imageLong)
+        omega (arith, step-long journal image p, ap length (image-text journal image p z), image-inside journal image p z e, image-most image (p .offset) (p .length) (w .imageBytes), w .imageLong)
 
 -- a name takes a byte for each unit at least
 pub place-least : (journal image : List ℕ) (p : NamePlace) → p .length / 2 ≤ length (placeText journal image p)
 unfolding placeText
-place-least journal image p = name-least (sourceOf journal image (p .source)) (p .offset) (p .length)
+place-least journal image p =
+    cond-cases (λ (t : List ℕ). p .length / 2 ≤ length t) (eqb (p .source) 0) (λ _. name-least journal (p .offset) (p .length)) (λ _. image-least image (p .offset) (p .length))
 
 -- the length of a name that is inside
 pub inside-short : (journal image : List ℕ) (p : NamePlace) → inside (lengthsOf journal image) p ≡ true → length journal ≤ domain → length image ≤ domain → p .length ≤ domain

@@ -1,3 +1,4 @@
 pub mod Text
+pub mod Restoring
 pub mod Decoding
 pub mod Promise

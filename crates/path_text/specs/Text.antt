@@ -3,6 +3,7 @@ use Prim.Native.Nat.{ℕ}
 use mathlib.Core.List.{List, [], _∷_, _++_}
 use lib.ListN.{length}
 use Rattle.base.specs.Lists.{flatten}
+use Rattle.mft_sectors.specs.Stored.{imageBytes}
 use Rattle.utf16.specs.Text.{nameText}
 use Rattle.utf16.specs.Decimal.{decimal}
 use Rattle.entry_slots.specs.Names.{sourceOf}
@@ -29,9 +30,17 @@ endText Root = 0x2E ∷ []
 endText (Unknown k) = unknownWord ++ keyText k
 endText (Unresolved k) = unresolvedWord ++ keyText k
 
+-- the bytes of an MFT entry
+abbrev pub entrySize : ℕ
+entrySize = 1024
+
+-- the text of the name of n bytes at an offset of the image: of the restored entry where it lies in one, else of the bytes as they are
+unfoldable pub imageText : List ℕ → ℕ → ℕ → List ℕ
+imageText image offset n = nameText (imageBytes entrySize image (record { offset = offset; length = n })) 0 n
+
 -- the text of the name at a place of journal or image
 unfoldable pub placeText : List ℕ → List ℕ → NamePlace → List ℕ
-placeText journal image p = nameText (sourceOf journal image (p .source)) (p .offset) (p .length)
+placeText journal image p = sourceOf (nameText journal (p .offset) (p .length)) (imageText image (p .offset) (p .length)) (p .source)
 
 abbrev pub placeLength : List ℕ → List ℕ → NamePlace → ℕ
 placeLength journal image p = length (placeText journal image p)

@@ -1,10 +1,11 @@
 // The texts that a path is made of: that of a chain's end, and that of a stored name.
 //
 // An end is the root `.`, `UNKNOWN(e:s)` or `UNRESOLVED(e:s)`. A name is decoded from the journal or the image, by the place that a
-// table or a reader has of it.
+// table or a reader has of it; where that lies in an MFT entry of the image, with the true ends of the entry's sectors.
 //
 // Every function here is proved. The call has no `requires`: any place gets an answer. The lengths of journal and image decide all
 // but the text and whether it fits. The writers of `text` are helpers of our own crates, which ask for room.
+mod stored;
 pub mod text;
 
 ghost use Rattle.path_text.specs.Promise.{DecodePromise};

@@ -6,6 +6,8 @@ ghost use lib.ListN.{length};
 ghost use lib.Seq.{sets};
 ghost use Rattle.entry_slots.specs.Names.{lengthsOf, inside};
 ghost use Rattle.path_text.specs.Text.{keyText, endText, placeText, stepText};
+use crate::stored::image_length;
+use crate::stored::put_image;
 use chain::ChainEnd;
 use entry_slots::EntryKey;
 use entry_slots::NamePlace;
@@ -76,7 +78,7 @@ pub fn place_length(journal: &[u8], image: &[u8], place: NamePlace) -> usize
     if place.source == JOURNAL {
         return name_length(journal, offset, size);
     }
-    name_length(image, offset, size)
+    image_length(image, offset, size)
 }
 
 // The text of the name at a place.
@@ -97,7 +99,7 @@ pub fn put_place(
     if place.source == JOURNAL {
         return put_name(journal, offset, size, text, at);
     }
-    put_name(image, offset, size, text, at)
+    put_image(image, offset, size, text, at)
 }
 
 // A backslash and the name at a place.

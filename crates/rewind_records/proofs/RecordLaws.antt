@@ -8,11 +8,10 @@ use borrow.Author.Tests.{lt-leb}
 use lib.ListN.{drop}
 use lib.Dec.{leb}
 use Rattle.base.specs.Outcome.{Outcome, refused, answered}
-use Rattle.base.specs.Lists.{every}
+use Rattle.base.specs.Lists.{every, rows}
 use Rattle.base.proofs.ChoiceLaws.{and-left, and-right}
 use Rattle.usn_record.specs.Record.{isAnswered}
-use Rattle.entry_slots.specs.Slots.{rows}
-use Rattle.entry_slots.proofs.RowLaws.{rows-next, rows-end, map-rows}
+use Rattle.base.proofs.RowLaws.{rows-next, rows-end, map-rows}
 use Rattle.entry_slots.proofs.NameLaws.{every-at}
 use Rattle.additions.specs.Entries.{entryAt, entryOr, backward}
 use Rattle.rewind_records.specs.Environment.{environmentWith, allAnswered, entriesOf, additions}

@@ -1,15 +1,19 @@
 -- The text of units by their first code point, of ASCII, and its length: one to three bytes a unit. Assumes nothing.
 use Prim.Native.Nat.{ℕ, zero, suc, _+_, _*_, _/_, _≤_, _<_}
-use mathlib.Core.Path.{_≡_, refl, ap, _∙_}
+use mathlib.Core.Path.{_≡_, refl, ap, sym, _∙_}
 use mathlib.Core.List.{List, [], _∷_, _++_}
 use mathlib.Core.Bool.{Bool, true, false}
 use native.Mathlib.Omega.{arith}
-use lib.ListN.{length, length-append, getD}
+use native.Mathlib.Nat.{add-zero}
+use lib.ListN.{length, length-append, getD, drop}
+use lib.Seq.{take-append-seam}
+use Rattle.base.specs.Lists.{overwrite}
+use Rattle.base.specs.Places.{part}
 use Rattle.usn_record.proofs.ByteLaws.{read-lt}
 use Rattle.utf16.specs.Utf16.{isPair, joined, alone, codePoints, unitsAt}
 use Rattle.utf16.specs.Utf8.{utf8}
 use Rattle.utf16.specs.Text.{decoded, nameText}
-use Rattle.utf16.proofs.Utf16Laws.{alone-small, points-pair, points-alone, points-below, units-length}
+use Rattle.utf16.proofs.Utf16Laws.{alone-small, points-pair, points-alone, points-below, units-length, units-part}
 use Rattle.utf16.proofs.Utf8Laws.{utf8-one, utf8-four, utf8-most, utf8-small, utf8-least}
 
 pub text-none : decoded [] ≡ []
@@ -88,3 +92,14 @@ name-most s b o n = rw (units-length s o (n / 2)) at (text-most (unitsAt s o (n 
 
 pub name-room : (s : List ℕ) → ((i : ℕ) → getD s i 0 < 256) → (o n room : ℕ) → 3 * (n / 2) ≤ room → length (nameText s o n) ≤ room
 name-room s b o n room h = omega (arith, name-most s b o n)
+
+-- the name at the front of a part is the whole's
+pub name-part : (s : List ℕ) (o n : ℕ) → o + n ≤ length s → nameText (part s o n) 0 n ≡ nameText s o n
+name-part s o n h = ap decoded (units-part s o n 0 (n / 2) h (omega arith) ∙ ap (λ (m : ℕ). unitsAt s m (n / 2)) (add-zero o))
+
+-- and that of bytes written over the front of a list is theirs
+pub name-front : (l vs : List ℕ) (n : ℕ) → length vs ≡ n → nameText (overwrite l vs) 0 n ≡ nameText vs 0 n
+name-front l vs n e =
+    let m : List ℕ = overwrite l vs in
+    let g : part m 0 n ≡ vs = rw (← e) (take-append-seam vs (drop (length vs) l)) in
+    sym (name-part m 0 n (omega (arith, length-append vs (drop (length vs) l), e))) ∙ ap (λ (s : List ℕ). nameText s 0 n) g

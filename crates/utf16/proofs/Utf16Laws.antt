@@ -1,13 +1,16 @@
 -- Pairs, units by themselves, and the first code point of units, by the tests that lead there. Assumes nothing.
-use Prim.Native.Nat.{ℕ, zero, suc, _+_, _≤_, _<_}
+use Prim.Native.Nat.{ℕ, zero, suc, _+_, _*_, _≤_, _<_}
 use mathlib.Core.Path.{_≡_, refl, ap, sym}
 use mathlib.Core.List.{List, [], _∷_}
 use mathlib.Core.Bool.{Bool, true, false, _&&_, false≢true}
 use native.Mathlib.Omega.{arith}
+use native.Mathlib.Nat.{add-assoc}
 use borrow.Author.Tests.{le-leb, lt-leb, leb-true}
 use lib.ListN.{length}
 use lib.Dec.{leb}
+use Rattle.base.specs.Places.{part}
 use Rattle.base.proofs.ChoiceLaws.{cond-cases, and-false}
+use Rattle.usn_record.proofs.ByteLaws.{read-part}
 use Rattle.utf16.specs.Utf16.{isHigh, isLow, isSurrogate, isPair, joined, alone, codePoints, unitsAt}
 
 -- a unit by itself
@@ -78,3 +81,9 @@ pub units-length : (s : List ℕ) (o n : ℕ) → length (unitsAt s o n) ≡ n
 unfolding unitsAt
 units-length s o zero = refl
 units-length s o (suc n) = ap suc (units-length s (o + 2) n)
+
+-- those of a part are the whole's
+pub units-part : (s : List ℕ) (o m k n : ℕ) → o + m ≤ length s → k + 2 * n ≤ m → unitsAt (part s o m) k n ≡ unitsAt s (o + k) n
+unfolding unitsAt
+units-part s o m k zero a h = refl
+units-part s o m k (suc n) a h = rw (read-part s o m 2 k a (omega arith), units-part s o m (k + 2) n a (omega arith), add-assoc o k 2)

@@ -2,7 +2,7 @@
 
 use volume_history::{carve_mft_entries, CarvedMftEntry, MftCarvingStats};
 
-use crate::layout::{mft_entry, name_attribute, other_attribute, reference};
+use crate::layout::{mft_entry, name_attribute, other_attribute, reference, stored, true_entry, utf16, ARRAY, CHECK};
 
 /// The entries of an image, of which so many candidates are rejected.
 fn carved(image: &[u8], rejected: u64) -> Vec<CarvedMftEntry> {
@@ -84,9 +84,10 @@ fn sequence_0_is_rejected() {
     assert_eq!(carved(&mft_entry(30, 0, 1, 56, &[name("a", 1)]), 1), []);
 }
 
+/// At 48 no array finds room before it.
 #[test]
 fn p7_the_first_attribute() {
-    for (first, rejected) in [(47, 1), (48, 0), (900, 0), (1016, 1), (1023, 1), (65535, 1)] {
+    for (first, rejected) in [(47, 1), (48, 1), (54, 0), (900, 0), (1016, 1), (1023, 1), (65535, 1)] {
         let image = mft_entry(30, 1, 1, first, &[name("a", 1)]);
         assert_eq!(carved(&image, rejected).len() as u64, 1 - rejected, "{first}");
     }
@@ -142,4 +143,74 @@ fn attributes_without_a_name() {
     assert_eq!(with(0, &[0xff; 4]), None, "the end");
     assert_eq!(with(4, &[7]), None, "a length of 7");
     assert_eq!(with(4, &[0, 4]), None, "a length past the entry");
+}
+
+/// The first name begins at 146 of these entries, so that unit 182 of it is the first sector's end.
+#[test]
+fn a_name_is_that_of_the_restored_entry() {
+    let names = [
+        "a".repeat(182),
+        "b".repeat(183),
+        "c".repeat(184),
+        "\u{20ac}".repeat(255),
+        "\u{1F600}".repeat(127),
+        format!("a{}", "\u{1F600}".repeat(91)),
+        format!("a{}", "\u{1F600}".repeat(127)),
+    ];
+    for text in names {
+        let entry = mft_entry(30, 1, 1, 56, &[name(&text, 1)]);
+        let bytes = utf16(&text);
+        assert_eq!(entry[146..510], bytes[..364]);
+        assert_eq!(entry[510..512], CHECK);
+        assert!(bytes.len() == 364 || bytes[364..366] != CHECK);
+        let image = [entry.clone(), entry].concat();
+        for entry in carved(&image, 0) {
+            assert_eq!(entry.filename, text, "at {}", entry.offset);
+        }
+    }
+}
+
+#[test]
+fn a_parent_and_a_namespace_are_those_of_the_restored_entry() {
+    let attribute = name_attribute("a", 1, reference(0x1234_5678_9abc, 0xfedc));
+    // The parent's sequence stands at 30 of the attribute, the name's length and its namespace at 88.
+    for first in [510 - 30, 510 - 88] {
+        let image = mft_entry(30, 1, 1, first, &[attribute.clone(), name("later", 3)]);
+        let entry = &carved(&image, 0)[0];
+        assert_eq!(entry.filename, "a");
+        assert_eq!((entry.parent_entry, entry.parent_sequence), (0x1234_5678_9abc, 0xfedc));
+    }
+}
+
+#[test]
+fn an_array_that_is_not_sound_is_rejected() {
+    let entry = |first, array| stored(true_entry(30, 1, 1, first, &[name("a", 1)]), array);
+    let is_carved = |image: &[u8]| carve_mft_entries(image).1.entries_carved == 1;
+    let with = |place: usize, byte| {
+        let mut image = entry(56, ARRAY);
+        image[place] = byte;
+        is_carved(&image)
+    };
+    for array in [48, 50] {
+        assert!(is_carved(&entry(56, array)), "the array at {array}");
+    }
+    let mut within = true_entry(30, 1, 1, 48, &[name("a", 1)]);
+    for (place, byte) in [(4, 48), (6, 3), (510, 0x30), (1022, 0x30)] {
+        within[place] = byte;
+    }
+    assert_eq!(within[48..50], within[510..512]);
+    assert!(!is_carved(&within), "its numbers are the first attribute's");
+    assert!(is_carved(&entry(600, 504)), "it ends at 510");
+    assert!(!is_carved(&entry(600, 506)), "it passes 510");
+    assert!(!is_carved(&entry(56, 46)), "it begins below 48");
+    assert!(!with(4, 49), "its offset is odd");
+    for count in [0, 2, 3, 4, 9] {
+        assert_eq!(with(6, count), count == 3, "its count is {count}");
+    }
+    for place in [ARRAY, ARRAY + 1, 510, 511, 1022, 1023] {
+        assert!(!with(place, 9), "another byte at {place}");
+    }
+    for place in [ARRAY + 2, ARRAY + 5, 509, 512, 1021] {
+        assert!(with(place, 9), "another byte at {place}");
+    }
 }

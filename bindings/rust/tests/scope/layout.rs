@@ -128,8 +128,17 @@ pub fn other_attribute() -> Vec<u8> {
     vec![0x10, 0, 0, 0, 8, 0, 0, 0]
 }
 
-/// An MFT entry of 1024 bytes, with its attributes from an offset on.
+/// Where the update sequence array of an entry stands here, and the check value.
+pub const ARRAY: usize = 48;
+pub const CHECK: [u8; 2] = [7, 0];
+
+/// An MFT entry of 1024 bytes as it is stored, with its attributes from an offset on.
 pub fn mft_entry(number: u32, sequence: u16, flags: u16, first: u16, attributes: &[Vec<u8>]) -> Vec<u8> {
+    stored(true_entry(number, sequence, flags, first, attributes), ARRAY)
+}
+
+/// The same with its true sector ends, before it is stored; it has no array.
+pub fn true_entry(number: u32, sequence: u16, flags: u16, first: u16, attributes: &[Vec<u8>]) -> Vec<u8> {
     let mut entry = b"FILE".to_vec();
     entry.resize(1024, 0);
     entry[16..18].copy_from_slice(&sequence.to_le_bytes());
@@ -141,6 +150,18 @@ pub fn mft_entry(number: u32, sequence: u16, flags: u16, first: u16, attributes:
     let first = usize::from(first);
     for (place, byte) in entry.iter_mut().skip(first).zip(attributes) {
         *place = byte;
+    }
+    entry
+}
+
+/// An entry as it is stored: the array at an offset has the check value and the true sector ends, which the check value replaces.
+pub fn stored(mut entry: Vec<u8>, array: usize) -> Vec<u8> {
+    entry[4..6].copy_from_slice(&(array as u16).to_le_bytes());
+    entry[6..8].copy_from_slice(&3_u16.to_le_bytes());
+    entry.copy_within(510..512, array + 2);
+    entry.copy_within(1022..1024, array + 4);
+    for place in [array, 510, 1022] {
+        entry[place..place + 2].copy_from_slice(&CHECK);
     }
     entry
 }

@@ -1,6 +1,8 @@
 //! The lookup table and its paths.
 
-use volume_history::{CarvedMftEntry, EntryInfo, EntryKey, RewindEngine};
+use volume_history::{parse_usn_journal, CarvedMftEntry, EntryInfo, EntryKey, RewindEngine};
+
+use crate::layout::{change, journal, utf16};
 
 /// What is known of a key.
 fn info(name: &str, parent: (u64, u16)) -> EntryInfo {
@@ -27,6 +29,24 @@ fn carved(number: u64, sequence: u16, name: &str, parent: (u64, u16)) -> CarvedM
         is_directory: true,
         is_in_use: true,
     }
+}
+
+/// A text of 512 units whose UTF-16 looks like a stored MFT entry: it begins FILE, has a sound array at 48, and the true sector ends
+/// in that array differ from the stored ones.
+fn like_an_entry() -> String {
+    let mut units = vec![u16::from(b'a'); 512];
+    let [file, array] = [
+        [0x4946, 0x454c, 48, 3],
+        [u16::from(b'x'), u16::from(b'p'), u16::from(b'q'), 0x20],
+    ];
+    units[..4].copy_from_slice(&file);
+    units[10] = 56;
+    units[24..28].copy_from_slice(&array);
+    units[255] = array[0];
+    units[511] = array[0];
+    let text = String::from_utf16(&units).expect("no unit is a surrogate");
+    assert!(utf16(&text).starts_with(b"FILE"));
+    text
 }
 
 /// A ladder of so many names under 5:5: the entry 1000 hangs under it, 1001 under 1000, and so on.
@@ -140,4 +160,42 @@ fn texts_grow() {
     let long = "\u{20ac}".repeat(32767);
     let engine = RewindEngine::from_mft((0..20).map(|i| (30 + i, 1, long.clone(), if i == 0 { 5 } else { 29 + i }, 1)));
     assert_eq!(path(&engine, 49, 1), format!(".{}", format!("\\{long}").repeat(20)));
+}
+
+/// A table's names stand behind each other in memory of its own, the first at its start: the names here make blocks of 1024 bytes
+/// that look like entries, whole and in four parts, two of them with a sector's end.
+#[test]
+fn names_that_look_like_an_entry_stay_as_they_are() {
+    let whole = like_an_entry();
+    let units: Vec<char> = whole.chars().collect();
+    let parts: Vec<String> = units.chunks(128).map(|part| part.iter().collect()).collect();
+    for names in [vec![whole.clone()], vec!["b".repeat(512), whole.clone()], parts] {
+        let key = |i: usize| EntryKey::new(30 + i as u64, 1);
+        let mut inserted = RewindEngine::new();
+        for (i, name) in names.iter().enumerate() {
+            inserted.insert(key(i), info(name, (5, 5)));
+        }
+        let mut seeded = RewindEngine::new();
+        let entries = names
+            .iter()
+            .enumerate()
+            .map(|(i, name)| carved(30 + i as u64, 1, name, (5, 5)));
+        seeded.seed_from_carved(&entries.collect::<Vec<_>>());
+        // Of equal keys the last counts, so that the last entry's name comes first in the table.
+        let last_first = names.iter().enumerate().rev();
+        let filled = RewindEngine::from_mft(last_first.map(|(i, name)| (30 + i as u64, 1, name.clone(), 5, 5)));
+        for mut engine in [inserted, seeded, filled] {
+            for (i, name) in names.iter().enumerate() {
+                assert_eq!(engine.resolve_path(&key(i)), format!(r".\{name}"));
+            }
+            let records = names
+                .iter()
+                .enumerate()
+                .map(|(i, _)| change((90, 1), (30 + i as u64, 1), 0x100, "in it"));
+            let records = parse_usn_journal(&journal(&records.collect::<Vec<_>>())).unwrap();
+            for (resolved, name) in engine.rewind(&records).iter().zip(&names) {
+                assert_eq!(resolved.full_path, format!(r".\{name}\in it"));
+            }
+        }
+    }
 }

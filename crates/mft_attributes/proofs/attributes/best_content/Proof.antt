@@ -1,6 +1,8 @@
 -- The invariant: what is kept, with the attributes left, is what is kept at the end.
 use borrow.Author.Needs.{needs}
 use native.Mathlib.Omega.{arith}
+use Rattle.mft_sectors.specs.SectorEnds.{restoredBy}
+use Rattle.mft_sectors.proofs.SectorLaws.{length-restored}
 use Rattle.mft_attributes.specs.Step.{keptAt}
 use Rattle.mft_attributes.proofs.LieLaws.{content-inside}
 use Rattle.mft_attributes.proofs.FilenameLaws.{Keeping, keeping-start, keeping-none, keeping-end, keeping-other, keeping-named}
@@ -8,13 +10,13 @@ use Rattle.mft_attributes.proofs.attributes.best_content.Statement.{sta
 use Rattle.mft_attributes.proofs.attributes.best_content.Tie as tie
 
 abbrev Inv-loop : tie.InvT-loop
-Inv-loop entry first walked best₀ a₀ left₀ best a left = Keeping entry first walked (keptAt entry best) a left
+Inv-loop entry array first walked best₀ a₀ left₀ best a left = Keeping (restoredBy array entry) first walked (keptAt (restoredBy array entry) best) a left
 
 abbrev μ-loop : tie.MeasureT-loop
-μ-loop entry first walked best₀ a₀ left₀ best a left = left
+μ-loop entry array first walked best₀ a₀ left₀ best a left = left
 
 loop-holds : tie.Need-loop-holds Inv-loop μ-loop
-loop-holds c = keeping-start _ _ _
+loop-holds c = keeping-start _ _ _ (rw length-restored (omega arith))
 
 sub-left : tie.Need-sub-left Inv-loop μ-loop
 sub-left c = omega arith
@@ -41,7 +43,7 @@ enum-known-content : tie.Need-enum-known-content Inv-loop μ-loop
 enum-known-content c = search needs
 
 better-requires : tie.Need-better-requires Inv-loop μ-loop
-better-requires c κs = content-inside _ _ (c .before .content .given .1) (c .before .before .before .attribute-step .ensures)
+better-requires c κs = let h = content-inside _ _ (c .before .content .given .1) (c .before .before .before .attribute-step .ensures) in rw length-restored at h
 
 loop-less-2 : tie.Need-loop-less-2 Inv-loop μ-loop
 loop-less-2 c = omega arith

@@ -1,5 +1,6 @@
 -- What is kept, by where it lies.
 use Rattle.mft_attributes.proofs.FilenameLaws.{kept-name, kept-none}
+use Rattle.mft_sectors.proofs.SectorLaws.{length-restored}
 use borrow.Author.Needs.{needs}
 use Rattle.mft_attributes.proofs.attributes.best_filename.Statement.{statement}
 use Rattle.mft_attributes.proofs.attributes.best_filename.Tie as tie
@@ -11,10 +12,10 @@ filename-at-requires : tie.Need-filename-at-requires
 filename-at-requires c κs = search needs
 
 returns : tie.Need-returns
-returns c = kept-name _ (c .before .before .best-content .ensures) (c .before .if1 .taken) (c .filename-at .ensures)
+returns c = kept-name _ (c .before .before .best-content .ensures) (rw length-restored (c .before .if1 .taken)) (c .filename-at .ensures)
 
 returns-2 : tie.Need-returns-2
-returns-2 c = kept-none _ (c .before .best-content .ensures) (c .if1 .left)
+returns-2 c = kept-none _ (c .before .best-content .ensures) (rw length-restored (c .if1 .left))
 
 pub best-filename-spec : {M : Type 1} → statement M
 best-filename-spec =

@@ -20,8 +20,8 @@ same-length c = search needs
 returns : tie.Need-returns
 returns c = put-as (c .before .before .before .before .before .before .before .before .before .args .text .now) (c .before .before .before .before .before .before .before .before .before .args .at) (journal-text (c .before .before .before .before .before .before .before .before .before .args .journal .now) (c .before .before .before .before .before .before .before .before .before .args .image .now) (c .before .before .before .before .before .before .before .before .before .args .place) (c .before .before .before .before .if1 .taken)) (c .before .before .put-name .ensures)
 
-put-name-requires-2 : tie.Need-put-name-requires-2
-put-name-requires-2 c κs = (
+put-image-requires : tie.Need-put-image-requires
+put-image-requires c κs = (
   image-inside (c .before .before .before .before .before .before .args .journal .now) (c .before .before .before .before .before .before .args .image .now) (c .before .before .before .before .before .before .args .place) (c .before .if1 .left) (c .before .before .before .before .before .before .pre .0),
   omega (arith, c .before .before .before .before .before .before .pre .1, ap length (image-text (c .before .before .before .before .before .before .args .journal .now) (c .before .before .before .before .before .before .args .image .now) (c .before .before .before .before .before .before .args .place) (c .before .if1 .left))),
 )
@@ -30,7 +30,7 @@ same-length-2 : tie.Need-same-length-2
 same-length-2 c = search needs
 
 returns-2 : tie.Need-returns-2
-returns-2 c = put-as (c .before .before .before .before .before .before .before .before .before .args .text .now) (c .before .before .before .before .before .before .before .before .before .args .at) (image-text (c .before .before .before .before .before .before .before .before .before .args .journal .now) (c .before .before .before .before .before .before .before .before .before .args .image .now) (c .before .before .before .before .before .before .before .before .before .args .place) (c .before .before .before .before .if1 .left)) (c .before .before .put-name2 .ensures)
+returns-2 c = put-as (c .before .before .before .before .before .before .before .before .before .args .text .now) (c .before .before .before .before .before .before .before .before .before .args .at) (image-text (c .before .before .before .before .before .before .before .before .before .args .journal .now) (c .before .before .before .before .before .before .before .before .before .args .image .now) (c .before .before .before .before .before .before .before .before .before .args .place) (c .before .before .before .before .if1 .left)) (c .before .before .put-image .ensures)
 
 pub put-place-spec : {M : Type 1} → statement M
 put-place-spec =
@@ -39,6 +39,6 @@ put-place-spec =
     put-name-requires
     same-length
     returns
-    put-name-requires-2
+    put-image-requires
     same-length-2
     returns-2)

@@ -1,8 +1,8 @@
 -- The bytes in turn; the first that differs decides.
-use Rattle.mft_carver.proofs.EntryLaws.{not-F, not-FI, not-FIL, by-E}
+use Rattle.mft_sectors.proofs.SignatureLaws.{not-F, not-FI, not-FIL, by-E}
 use borrow.Author.Needs.{needs}
-use Rattle.mft_carver.proofs.entry.has_signature.Statement.{statement}
-use Rattle.mft_carver.proofs.entry.has_signature.Tie as tie
+use Rattle.mft_sectors.proofs.signature.has_signature.Statement.{statement}
+use Rattle.mft_sectors.proofs.signature.has_signature.Tie as tie
 
 byte-at-requires : tie.Need-byte-at-requires
 byte-at-requires c κs = search needs

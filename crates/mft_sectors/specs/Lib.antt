@@ -1,0 +1,4 @@
+pub mod Signature
+pub mod SectorEnds
+pub mod Homes
+pub mod Stored
