@@ -17,6 +17,7 @@ use crate::paths::library::Sources;
 use crate::paths::{model, places};
 use crate::random::Random;
 use crate::records::answers::named;
+use std::fmt;
 use std::ops::AddAssign;
 
 const CALL: &str = "mft_carve_entries";
@@ -38,6 +39,17 @@ pub struct Met {
     pub as_stored: u64,
     pub restored: u64,
     pub names: u64,
+}
+
+impl fmt::Display for Met {
+    fn fmt(&self, f: &mut fmt::Formatter<'_>) -> fmt::Result {
+        write!(
+            f,
+            "{} of them restored and {} with another name than is stored, {} candidates with true ends as stored, \
+             {} with an array that fails a test",
+            self.restored, self.names, self.as_stored, self.unsound
+        )
+    }
 }
 
 impl AddAssign for Met {

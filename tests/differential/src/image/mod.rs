@@ -47,21 +47,13 @@ pub fn run(run: &Run) -> Outcome {
         entries += written;
         images += 1;
     }
-    let Met {
-        unsound,
-        as_stored,
-        restored,
-        names,
-    } = met;
     println!(
-        "{SUBJECT}: {images} cases, {entries} entries, {carved} carved, {restored} of them restored and {names} with \
-         another name than is stored, {as_stored} candidates with true ends as stored, {unsound} with an array that \
-         fails a test, seed {}, no difference",
+        "{SUBJECT}: {images} cases, {entries} entries, {carved} carved, {met}, seed {}, no difference",
         run.seed
     );
-    run.met(SUBJECT, "a name that restoring changes", names)?;
-    run.met(SUBJECT, "true ends as stored", as_stored)?;
-    run.met(SUBJECT, "an array that fails a test", unsound)
+    run.met(SUBJECT, "a name that restoring changes", met.names)?;
+    run.met(SUBJECT, "true ends as stored", met.as_stored)?;
+    run.met(SUBJECT, "an array that fails a test", met.unsound)
 }
 
 /// An input of the fuzzer.

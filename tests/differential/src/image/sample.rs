@@ -17,7 +17,7 @@ const EDGES: u64 = 1;
 const CASES: u64 = 2;
 const NAMES: u64 = 3;
 
-/// How many images and names are recorded, beside the cut of a volume, which is the last input.
+/// How many images and names are recorded, beside the cuts of volumes, which are the last inputs.
 const IMAGES: usize = 72;
 const RECORDED_NAMES: usize = 60;
 
@@ -57,8 +57,11 @@ const SHORTEST_RANDOM: usize = 2 * ENTRY;
 /// The most units of a random name.
 const LONGEST_NAME: usize = 24;
 
-/// Entries of a volume that mkntfs made; tests/samples/README.md says how.
-const VOLUME: &[u8] = include_bytes!("../../../samples/mkntfs-cut.bin");
+/// Entries of volumes, those of the first with names across sector ends; tests/samples/README.md says how they are made.
+const VOLUMES: [&[u8]; 2] = [
+    include_bytes!("../../../samples/sector-ends.bin"),
+    include_bytes!("../../../samples/mkntfs-cut.bin"),
+];
 
 struct Sample<'a> {
     images: usize,
@@ -74,7 +77,9 @@ pub fn record(recording: &mut Recording) {
     exhaustive(&mut sample);
     random(&mut sample);
     names(&mut sample);
-    sample.image(VOLUME);
+    for volume in VOLUMES {
+        sample.image(volume);
+    }
 }
 
 /// Of each kind of exhaustive entry one that is carved and one that is not, where it has them.
