@@ -1,7 +1,7 @@
 -- The bytes of which the cases are made, from the scope's own numbers: nothing here cites a constant or a sample of the crates that the cases are about.
-use Prim.Native.Nat.{ℕ, zero, suc, _-_, _/_, _%_}
+use Prim.Native.Nat.{ℕ, zero, suc, _+_, _-_, _/_, _%_}
 use mathlib.Core.List.{List, [], _∷_, _++_}
-use lib.ListN.{length, replicate}
+use lib.ListN.{length, replicate, take, drop}
 
 -- n as w bytes, the lowest first
 abbrev pub le : ℕ → ℕ → List ℕ
@@ -76,3 +76,12 @@ padded s = s ++ replicate (1024 - length s) 0
 -- entry 42, with sequence 3, an update sequence array of three zeros at 48, which end both sectors, and these attributes from 56 on
 abbrev pub entryOf : List ℕ → List ℕ
 entryOf attributes = padded (entryHeader 48 3 3 56 ++ le 4 42 ++ replicate 8 0 ++ attributes ++ last)
+
+-- s with these bytes from i on
+abbrev pub put : ℕ → List ℕ → List ℕ → List ℕ
+put i bs s = take i s ++ bs ++ drop (i + length bs) s
+
+-- an entry of two sectors as a disk stores it, with its array at an offset: a check value at the end of both sectors, and the array of the check value and the true ends
+abbrev pub onDisk : ℕ → ℕ → List ℕ → List ℕ
+onDisk array check s =
+    put 1022 (le 2 check) (put 510 (le 2 check) (put array (le 2 check ++ take 2 (drop 510 s) ++ take 2 (drop 1022 s)) s))

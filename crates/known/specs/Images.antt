@@ -1,5 +1,5 @@
 -- Known cases of image carving, and of the decoding of names.
-use Prim.Native.Nat.{ℕ}
+use Prim.Native.Nat.{ℕ, _-_}
 use mathlib.Core.List.{List, [], _∷_, _++_}
 use lib.ListN.{take, replicate}
 use Rattle.base.specs.Lists.{flatten}
@@ -8,7 +8,7 @@ use Rattle.mft_carver.specs.Carve.{entriesIn, statsIn, entryWords, statsWords}
 use Rattle.utf16.specs.Text.{decoded}
 use Rattle.path_text.specs.Text.{placeText}
 use Rattle.known.specs.Case.{Case}
-use Rattle.known.specs.Bytes.{le, entryHeader, nameAttribute, others, last, padded, entryOf}
+use Rattle.known.specs.Bytes.{le, entryHeader, nameAttribute, others, last, padded, entryOf, put, onDisk}
 
 -- the counters of image carving: bytes, candidates, carved, rejected
 abbrev pub carveCounts : ℕ → List ℕ → List ℕ → List ℕ → Case
@@ -56,29 +56,39 @@ arrays =
 abbrev pub keeps : ℕ → List ℕ
 keeps name = 0 ∷ 42 ∷ 3 ∷ name ∷ 6 ∷ 5 ∷ 5 ∷ 1 ∷ 1 ∷ []
 
--- An entry whose sectors end with these two values, with an array at 48 of the check value 7 and the true ends 62h and 64h. Its name has three units at 508: 61h,
--- the end of the first sector, and 63h. It is carved if both ends are 7, at the place where the name is stored, and its text is abc.
+-- Entry 42 as a disk stores it, with an array at an offset and the check value 7: a first attribute of type 80h at 56, and at this offset one with the name abc,
+-- namespace 1 and parent 5:5. Its name begins 90 bytes further on, the number of its units stands 88, its namespace 89, and its parent's sequence 30.
+abbrev pub nameAt : ℕ → ℕ → List ℕ
+nameAt array a =
+    onDisk array 7
+    (headed array 3 56 (le 4 42 ++ replicate 8 0 ++ le 4 0x80 ++ le 4 (a - 56) ++ replicate (a - 64) 0 ++ nameAttribute 1 ++ last))
+
+-- that entry with its name at 508, so that the second unit ends the first sector, and with these values at the ends of its sectors
 abbrev pub across : ℕ → ℕ → List ℕ
-across one two =
-    headed 48 3 56
-    (le 4 42
-    ++ (le 2 7 ++ le 2 0x62 ++ le 2 0x64 ++ replicate 2 0)
-    ++ (le 4 0x80 ++ le 4 362 ++ replicate 354 0)
-    ++ take 90 (nameAttribute 1)
-    ++ (le 2 0x61 ++ le 2 one ++ le 2 0x63)
-    ++ last
-    ++ replicate 504 0
-    ++ le 2 two)
+across one two = put 1022 (le 2 two) (put 510 (le 2 one) (nameAt 48 418))
+
+-- Carved, from the true bytes: a name across the first sector's end; the number of units and the namespace there; the parent's sequence there; arrays at 50 and, with
+-- a first attribute at 512 and a name that ends the entry, at 504. Rejected: where an end is not the check value, also where both ends are alike.
+abbrev pub lastName : List ℕ
+lastName =
+    onDisk 504 7
+    (headed 504 3 512 (le 4 42 ++ replicate 464 0 ++ le 4 0x80 ++ le 4 416 ++ replicate 408 0 ++ nameAttribute 1))
 
 abbrev pub ends : List Case
 ends =
-    carvedAs 0 (7 ∷ 7 ∷ []) (across 7 7) (keeps 508)
+    carvedAs 0 (418 ∷ []) (nameAt 48 418) (keeps 508)
+    ∷ carvedAs 0 (422 ∷ []) (nameAt 48 422) (keeps 512)
+    ∷ carvedAs 0 (480 ∷ []) (nameAt 48 480) (keeps 570)
+    ∷ carvedAs 0 (50 ∷ []) (nameAt 50 418) (keeps 508)
+    ∷ carvedAs 0 (504 ∷ []) lastName (keeps 1018)
+    ∷ carvedAs 0 (7 ∷ 7 ∷ []) (across 7 7) (keeps 508)
     ∷ carvedAs 0 (8 ∷ 7 ∷ []) (across 8 7) []
     ∷ carvedAs 0 (7 ∷ 8 ∷ []) (across 7 8) []
+    ∷ carvedAs 0 (8 ∷ 8 ∷ []) (across 8 8) []
     ∷ []
 
--- the text of a stored place of an image, from the restored entry where it lies in one: the whole name; from an odd offset; up to the sector's end; where an end is
--- not the check value; past the entry's end; and in an image too short for the entry
+-- the text of a stored place of an image, from the restored entry where it lies in one: the whole name; from an odd offset; up to the sector's end; at the second sector's
+-- end, with arrays at 48 and at 504, and an array at 50; where an end is not the check value, or neither is; past the entry's end; and in an image too short for the entry
 abbrev pub readsAs : List ℕ → ℕ → ℕ → List ℕ → Case
 readsAs image offset length known =
     record { of = 0; given = offset ∷ length ∷ []; says = placeText [] image (record { source = 1; offset = offset; length = length }); known = known }
@@ -88,8 +98,11 @@ stored =
     readsAs (across 7 7) 508 6 (0x61 ∷ 0x62 ∷ 0x63 ∷ [])
     ∷ readsAs (across 7 7) 509 4 (0xE6 ∷ 0x88 ∷ 0x80 ∷ 0xE6 ∷ 0x8C ∷ 0x80 ∷ [])
     ∷ readsAs (across 7 7) 510 2 (0x62 ∷ [])
-    ∷ readsAs (across 7 7) 1022 2 (0x64 ∷ [])
+    ∷ readsAs (across 7 7) 1022 2 (0x00 ∷ [])
+    ∷ readsAs (nameAt 50 418) 508 6 (0x61 ∷ 0x62 ∷ 0x63 ∷ [])
+    ∷ readsAs lastName 1018 6 (0x61 ∷ 0x62 ∷ 0x63 ∷ [])
     ∷ readsAs (across 7 8) 508 6 (0x61 ∷ 0x07 ∷ 0x63 ∷ [])
+    ∷ readsAs (across 8 8) 508 6 (0x61 ∷ 0x08 ∷ 0x63 ∷ [])
     ∷ readsAs (across 7 7 ++ (0 ∷ [])) 1022 3 (0x07 ∷ [])
     ∷ readsAs (take 1023 (across 7 7)) 508 6 (0x61 ∷ 0x07 ∷ 0x63 ∷ [])
     ∷ []

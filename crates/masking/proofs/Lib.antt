@@ -10,3 +10,4 @@ pub mod Examples
 pub mod Pieces
 pub mod ListRuns
 pub mod Bounds
+pub mod CarvedText

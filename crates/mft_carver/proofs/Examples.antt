@@ -25,33 +25,12 @@ use Rattle.mft_carver.specs.Entry.{judged}
 use Rattle.mft_carver.specs.Carve.{imageVisit, statsOf, statsIn, carving}
 use Rattle.mft_carver.specs.Masking.{carvedHomes}
 use Rattle.mft_carver.specs.Sample.{sampleEntryHeader, beforeName, abc, nameAttribute, others, last, sampleArray, sample, beforeUnit, behindUnit, across}
+use Rattle.mft_carver.proofs.HomeExamples.{front, back, image, xbc, homes-abc, across-homes}
 use Rattle.mft_carver.proofs.ImageTwoRuns.{SameCarving, call-two-runs}
-
--- A $FILE_NAME attribute of 24 bytes at 56, whose content begins at 106, so that the length of its name would stand at 170: there the name of
--- the next attribute begins.
-abbrev reaching : List ℕ
-reaching = leBytes 4 fileName ++ leBytes 4 24 ++ replicate 8 0 ++ leBytes 4 66 ++ leBytes 4 50
-
-abbrev front : List ℕ
-front = sampleEntryHeader 3 56 ++ leBytes 4 42 ++ sampleArray 0 0 0 ++ reaching ++ beforeName 1
-
-abbrev back : List ℕ
-back = last ++ replicate 844 0
-
--- that entry with this name
-abbrev image : List ℕ → List ℕ
-image name = front ++ (name ++ back)
-
-abbrev xbc : List ℕ
-xbc = leBytes 2 0x78 ++ leBytes 2 0x62 ++ leBytes 2 0x63
 
 outcome : carving standard (image abc) 9 ≡ answered (record { «bytes_scanned» = 1024; «candidates_examined» = 1; «entries_carved» = 1; rejected = 0 })
 unfolding carving from walk imageVisit hasSignature judged sound ending restoredBy rows home filenameIn attributeVisit attributeAt given keep replaces referenceOf leAt le
 outcome = refl
-
-homes-abc : carvedHomes standard (image abc) 9 ≡ rows (λ i. record { offset = i; length = 1 }) 170 6
-unfolding carving from walk imageVisit hasSignature judged sound ending restoredBy rows home filenameIn attributeVisit attributeAt given keep replaces referenceOf leAt le
-homes-abc = refl
 
 -- the second run differs, in the carved name alone, and in the byte that the first attribute takes for its name's length
 pub image-differs : image abc ≡ image xbc → ⊥
@@ -74,10 +53,6 @@ across-outcome = refl
 pub across-name : part (restored (across 0x62)) 508 6 ≡ abc
 unfolding restoredBy rows home leAt le
 across-name = refl
-
-across-homes : carvedHomes standard (across 0x62) 9 ≡ byteAt 508 ∷ byteAt 509 ∷ byteAt 50 ∷ byteAt 51 ∷ byteAt 512 ∷ byteAt 513 ∷ []
-unfolding carving from walk imageVisit hasSignature judged sound ending restoredBy rows home filenameIn attributeVisit attributeAt given keep replaces referenceOf leAt le
-across-homes = refl
 
 -- the second run differs in that unit, in the array alone
 pub across-differs : across 0x62 ≡ across 0x78 → ⊥

@@ -71,8 +71,9 @@ pub enum MftCarving {
 }
 
 // The entries found at each 1024th byte that have the signature, a good header, a sound update sequence array and a name. The ends of
-// the sectors are restored first: parent and name are those of the restored entry. Nine words each go to the front of the list: offset, entry number, sequence, the name's offset and its length in bytes, the parent's entry and sequence, and 1
-// or 0 for a directory and for in use. The words after them are left alone.
+// the sectors are restored first: parent and name are those of the restored entry. Nine words each go to the front of the list: offset,
+// entry number, sequence, the name's offset and its length in bytes, the parent's entry and sequence, and 1 or 0 for a directory and for
+// in use. The words after them are left alone.
 // Refused, with nothing written: 1 the image is above the domain, 5 there are more entries than the list has room for.
 pub fn carve_mft_entries(image: &[u8], list: &mut [u64]) -> MftCarving
     ensures { λ r. ⌜ CarvePromise standard image list r ⌝ }

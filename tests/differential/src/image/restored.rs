@@ -1,5 +1,5 @@
 //! The copy of an image that is handed to the unchanged Rust in place of the stored one: the bytes that a driver of NTFS
-//! reads. It is written from the NTFS layout and the request, for entries of two sectors, apart from the scope's
+//! reads. It is written from the NTFS layout and the scope, for entries of two sectors, apart from the scope's
 //! walk, from the decoding of places and from our library, so that a mistake in one is not repeated here.
 
 /// The bytes of an entry, and where its two sectors end.

@@ -1,4 +1,4 @@
-//! The bytes that a stored place of the image is decoded from. It is written from the request, apart from the carver's walk,
+//! The bytes that a stored place of the image is decoded from. It is written from the scope, apart from the carver's walk,
 //! from the copy that the Rust is given and from our library, so that a mistake in one is not repeated here: it asks of each
 //! byte where its true value is stored.
 

@@ -30,7 +30,7 @@ le-u16-requires : tie.Need-le-u16-requires Inv-loop μ-loop
 le-u16-requires c κs = tt
 
 returns : tie.Need-returns Inv-loop μ-loop
-returns c = sym (sym (c .before .before .before .loop .inv .0) ∙ ending-not _ _ _ (c .before .before .loop-test .taken) (c .before .le-u16 .ensures) (c .if1 .taken))
+returns c = sym (sym (c .before .before .before .loop .inv .0) ∙ ending-not _ _ _ (omega (arith, c .before .before .loop-test .taken)) (c .before .le-u16 .ensures) (c .if1 .taken))
 
 sub-k : tie.Need-sub-k Inv-loop μ-loop
 sub-k c = omega arith
@@ -39,7 +39,7 @@ loop-less : tie.Need-loop-less Inv-loop μ-loop
 loop-less c = omega arith
 
 loop-again : tie.Need-loop-again Inv-loop μ-loop
-loop-again c = (sym (ending-next _ _ _ (c .before .before .loop-test .taken) (c .before .le-u16 .ensures) (c .if1 .left)) ∙ c .before .before .before .loop .inv .0, omega arith)
+loop-again c = (sym (ending-next _ _ _ (omega (arith, c .before .before .loop-test .taken)) (c .before .le-u16 .ensures) (c .if1 .left)) ∙ c .before .before .before .loop .inv .0, omega arith)
 
 returns-2 : tie.Need-returns-2 Inv-loop μ-loop
 returns-2 c = ending-none _ _ _ (c .loop-test .left) ∙ c .before .loop .inv .0

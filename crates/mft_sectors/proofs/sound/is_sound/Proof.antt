@@ -1,4 +1,5 @@
 -- Each way out by the tests that led to it.
+use native.Mathlib.Omega.{arith}
 use Rattle.mft_sectors.proofs.SectorLaws.{other-count, odd-offset, offset-below, past-first, past-body, by-ends}
 use borrow.Author.Needs.{needs}
 use Rattle.mft_sectors.proofs.sound.is_sound.Statement.{statement}
@@ -14,7 +15,7 @@ add-if1 : tie.Need-add-if1
 add-if1 c = search needs
 
 returns : tie.Need-returns
-returns c = other-count _ (c .before .le-u16 .ensures) (c .if1 .taken)
+returns c = other-count _ (c .before .le-u16 .ensures) (λ z. omega (arith, z, c .if1 .taken))
 
 le-u16-requires-2 : tie.Need-le-u16-requires-2
 le-u16-requires-2 c κs = search needs
@@ -23,10 +24,10 @@ cast-array : tie.Need-cast-array
 cast-array c = search needs
 
 returns-2 : tie.Need-returns-2
-returns-2 c = odd-offset _ (c .before .before .before .le-u16 .ensures) (c .before .before .if1 .left) (c .before .le-u162 .ensures) (c .if2 .taken)
+returns-2 c = odd-offset _ (c .before .before .before .le-u16 .ensures) (c .before .before .if1 .left) (c .before .le-u162 .ensures) (λ z. omega (arith, z, c .if2 .taken))
 
 returns-3 : tie.Need-returns-3
-returns-3 c = offset-below _ (c .before .before .before .before .le-u16 .ensures) (c .before .before .before .if1 .left) (c .before .before .le-u162 .ensures) (c .before .if2 .left) (c .if3 .taken)
+returns-3 c = offset-below _ (c .before .before .before .before .le-u16 .ensures) (c .before .before .before .if1 .left) (c .before .before .le-u162 .ensures) (c .before .if2 .left) (omega (arith, c .if3 .taken))
 
 mul-end : tie.Need-mul-end
 mul-end c = search needs
@@ -41,10 +42,10 @@ cast-first : tie.Need-cast-first
 cast-first c = search needs
 
 returns-4 : tie.Need-returns-4
-returns-4 c = past-first _ (c .before .before .before .before .before .before .le-u16 .ensures) (c .before .before .before .before .before .if1 .left) (c .before .before .before .before .le-u162 .ensures) (c .before .before .before .if2 .left) (c .before .before .if3 .left) (c .before .le-u163 .ensures) (c .if4 .taken)
+returns-4 c = past-first _ (c .before .before .before .before .before .before .le-u16 .ensures) (c .before .before .before .before .before .if1 .left) (c .before .before .before .before .le-u162 .ensures) (c .before .before .before .if2 .left) (c .before .before .if3 .left) (c .before .le-u163 .ensures) (omega (arith, c .if4 .taken))
 
 returns-5 : tie.Need-returns-5
-returns-5 c = past-body _ (c .before .before .before .before .before .before .before .le-u16 .ensures) (c .before .before .before .before .before .before .if1 .left) (c .before .before .before .before .before .le-u162 .ensures) (c .before .before .before .before .if2 .left) (c .before .before .before .if3 .left) (c .before .before .le-u163 .ensures) (c .before .if4 .left) (c .if5 .taken)
+returns-5 c = past-body _ (c .before .before .before .before .before .before .before .le-u16 .ensures) (c .before .before .before .before .before .before .if1 .left) (c .before .before .before .before .before .le-u162 .ensures) (c .before .before .before .before .if2 .left) (c .before .before .before .if3 .left) (c .before .before .le-u163 .ensures) (c .before .if4 .left) (omega (arith, c .if5 .taken))
 
 le-u16-requires-4 : tie.Need-le-u16-requires-4
 le-u16-requires-4 c κs = search needs

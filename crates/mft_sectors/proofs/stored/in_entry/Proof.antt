@@ -24,7 +24,7 @@ add-if2 : tie.Need-add-if2
 add-if2 c = search needs
 
 returns-2 : tie.Need-returns-2
-returns-2 c = past-entry _ _ _ (omega arith) (c .if2 .taken)
+returns-2 c = past-entry _ _ _ (omega arith) (omega (arith, c .if2 .taken))
 
 sub-entry : tie.Need-sub-entry
 sub-entry c = search needs
