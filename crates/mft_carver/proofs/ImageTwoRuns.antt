@@ -35,6 +35,7 @@ use Rattle.mft_attributes.specs.declared.filename.Filename.{Filename}
 use Rattle.mft_attributes.specs.declared.filename.Kept.{Kept}
 use Rattle.mft_attributes.specs.declared.filename.Kept.the-variants.{Nothing, Name}
 use Rattle.mft_carver.proofs.CallLaws.{outcome-agrees}
+use Rattle.mft_carver.proofs.HomeExamples.{across-homes}
 use Rattle.mft_carver.proofs.RunLaws.{visit-forward}
 use Rattle.mft_sectors.proofs.SignatureLaws.{signature-same}
 use Rattle.mft_sectors.proofs.SectorLaws.{Sound, sound-says, length-restored}
