@@ -17,7 +17,7 @@ const RENAME_OLD_NAME: u32 = 0x1000;
 const RENAME_NEW_NAME: u32 = 0x2000;
 
 // What a record says: the key of its file, the folder it stands in and its name, and the reasons of the change.
-#[derive(Drop)]
+#[derive(Clone, Copy)]
 pub struct RecordEntry {
     pub key: EntryKey,
     pub info: EntryInfo,

@@ -40,7 +40,7 @@ pub const DOMAIN: usize = 1073741824;
 
 // An offset and a length in bytes, in a lent slice. An empty name has place 0, 0.
 #[repr(C)]
-#[derive(Drop)]
+#[derive(Clone, Copy)]
 pub struct Place {
     pub offset: usize,
     pub length: usize,

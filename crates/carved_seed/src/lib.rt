@@ -23,7 +23,7 @@ use mft_carver::CarvedMftEntry;
 // What seeding answers, in numbers: the used slots, which are those that came in where it is refused, and 0 or the number of the
 // refusal.
 #[repr(C)]
-#[derive(Drop)]
+#[derive(Clone, Copy)]
 pub struct Seeded {
     pub used: usize,
     pub refusal: u32,

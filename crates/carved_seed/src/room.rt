@@ -18,7 +18,7 @@ use mft_carver::CarvedMftEntry;
 
 // Where counting stands: the key of entry i is next compared with that of entry j, after n different new keys. Where j is i, all
 // before it are compared.
-#[derive(Drop)]
+#[derive(Clone, Copy)]
 pub struct Pair {
     pub i: usize,
     pub j: usize,

@@ -20,7 +20,7 @@ use entry_slots::EntryKey;
 pub const DEPTH: usize = 256;
 
 // What the names of a path hang under: the root, a key that the table does not have, or the key at which the levels ran out.
-#[derive(Drop)]
+#[derive(Clone, Copy)]
 pub enum ChainEnd {
     Root,
     Unknown(EntryKey),
@@ -28,14 +28,14 @@ pub enum ChainEnd {
 }
 
 // How many names a path has, and its end.
-#[derive(Drop)]
+#[derive(Clone, Copy)]
 pub struct ResolvedPath {
     pub names: usize,
     pub end: ChainEnd,
 }
 
 // What a path without text answers.
-#[derive(Drop)]
+#[derive(Clone, Copy)]
 pub enum ChainAnswer {
     Resolved(ResolvedPath),
     Refused(u32),

@@ -14,7 +14,7 @@ use entry_slots::slots::Found;
 const ROOT_ENTRY: u64 = 5;
 
 // The way up from a key: it ends here, or goes on from the slot that the key stands in.
-#[derive(Drop)]
+#[derive(Clone, Copy)]
 pub enum Way {
     End(ChainEnd),
     Slot(usize),

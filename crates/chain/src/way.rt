@@ -28,7 +28,7 @@ const PLACE_WORDS: usize = 3;
 const TOO_LONG: usize = 1099511627776;
 
 // The end of a way up: how many slots it has, each with a name, the most bytes that their text takes, and what they hang under.
-#[derive(Drop)]
+#[derive(Clone, Copy)]
 pub struct Climbed {
     pub names: usize,
     pub bound: usize,

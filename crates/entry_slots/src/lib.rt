@@ -14,14 +14,14 @@ pub mod names;
 pub mod slots;
 
 // A file or folder by its MFT entry and sequence. Any two words are a key.
-#[derive(Drop)]
+#[derive(Clone, Copy)]
 pub struct EntryKey {
     pub entry: u64,
     pub sequence: u64,
 }
 
 // Where a name's bytes lie: in the journal for source 0, in the image for any other.
-#[derive(Drop)]
+#[derive(Clone, Copy)]
 pub struct NamePlace {
     pub source: u64,
     pub offset: u64,
@@ -29,7 +29,7 @@ pub struct NamePlace {
 }
 
 // What is known of a key: the folder it stands in, and its name.
-#[derive(Drop)]
+#[derive(Clone, Copy)]
 pub struct EntryInfo {
     pub parent: EntryKey,
     pub name: NamePlace,

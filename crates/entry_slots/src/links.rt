@@ -11,7 +11,7 @@ use crate::EntryKey;
 use crate::slots::{Found, key_at, same_key};
 
 // What a walk along the links of a key's hash comes to: the slot that has the key, or the last link, 0 where there is none.
-#[derive(Drop)]
+#[derive(Clone, Copy)]
 pub enum Probe {
     Hit(usize),
     Last(u64),

@@ -10,7 +10,7 @@ use base::put_words;
 pub const STRIDE: usize = 7;
 
 // Where a key stands: in a slot, or in none.
-#[derive(Drop)]
+#[derive(Clone, Copy)]
 pub enum Found {
     At(usize),
     Nothing,

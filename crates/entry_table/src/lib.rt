@@ -26,7 +26,7 @@ use entry_slots::slots::STRIDE;
 use entry_slots::{EntryInfo, EntryKey};
 
 // What storing answers: the number of used slots, or a refusal's number.
-#[derive(Drop)]
+#[derive(Clone, Copy)]
 pub enum Stored {
     Used(usize),
     Refused(u32),

@@ -18,7 +18,7 @@ const ATTR_END_MARKER: u32 = 0xFFFF_FFFF;
 
 // What stands at an offset: the end of the walk, or an attribute, one that gives a name or another, and the offset past it. A name is
 // told by where the content lies that has it.
-#[derive(Drop)]
+#[derive(Clone, Copy)]
 pub enum AttributeStep {
     End,
     Other(usize),

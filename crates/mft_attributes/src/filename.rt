@@ -13,7 +13,7 @@ const NS_DOS: u8 = 2;
 const NS_WIN32_AND_DOS: u8 = 3;
 
 // A name that an attribute gives: its place, the parent directory's reference, and its namespace.
-#[derive(Drop)]
+#[derive(Clone, Copy)]
 pub struct Filename {
     pub place: Place,
     pub parent: Reference,
@@ -21,7 +21,7 @@ pub struct Filename {
 }
 
 // The best name so far.
-#[derive(Drop)]
+#[derive(Clone, Copy)]
 pub enum Kept {
     Nothing,
     Name(Filename),

@@ -12,7 +12,7 @@ use mft_sectors::sound::is_sound;
 use usn_record::bytes::{le_u16, le_u32};
 
 // What becomes of a candidate.
-#[derive(Drop)]
+#[derive(Clone, Copy)]
 pub enum Candidate {
     Rejected,
     Carved(CarvedMftEntry),

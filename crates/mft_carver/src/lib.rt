@@ -26,7 +26,7 @@ const MAX_ATTR_WALK: usize = 20;
 pub const ENTRY_WORDS: usize = 9;
 
 // The limits that carving goes by.
-#[derive(Drop)]
+#[derive(Clone, Copy)]
 pub struct Settings {
     // The bytes of an entry; entries are looked for so far apart.
     pub size: usize,
@@ -39,7 +39,7 @@ pub struct Settings {
 
 // A carved MFT entry.
 #[repr(C)]
-#[derive(Drop)]
+#[derive(Clone, Copy)]
 pub struct CarvedMftEntry {
     // Where it stands in the image.
     pub offset: usize,
@@ -56,7 +56,7 @@ pub struct CarvedMftEntry {
 }
 
 // What a run counted. Every candidate is carved or rejected.
-#[derive(Drop)]
+#[derive(Clone, Copy)]
 pub struct MftCarvingStats {
     pub bytes_scanned: usize,
     pub candidates_examined: u64,
@@ -65,7 +65,7 @@ pub struct MftCarvingStats {
 }
 
 // What carving answers: its counters, or a refusal's number.
-#[derive(Drop)]
+#[derive(Clone, Copy)]
 pub enum MftCarving {
     Carved(MftCarvingStats),
     Refused(u32),

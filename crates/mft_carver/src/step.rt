@@ -10,7 +10,7 @@ use mft_sectors::signature::has_signature;
 
 // What a visit says, with the offset of the next one: the image ends, no candidate stands here, or one that is rejected or
 // carved.
-#[derive(Drop)]
+#[derive(Clone, Copy)]
 pub enum CarveStep {
     Stop,
     Move(usize),

@@ -17,7 +17,7 @@ use chain::way::{WAY_WORDS, climb, list_places, resolved};
 use entry_slots::EntryKey;
 
 // What a path answers: its names and end, and how many bytes its text takes; or a refusal's number.
-#[derive(Drop)]
+#[derive(Clone, Copy)]
 pub enum PathAnswer {
     Path { path: ResolvedPath, text: usize },
     Refused(u32),

@@ -16,7 +16,7 @@ use entry_slots::slots::info_at;
 use path_text::text::{end_length, place_length, put_end, put_step};
 
 // What becomes of a path that goes behind other text: where the text ends then, or that there is no room for it.
-#[derive(Drop)]
+#[derive(Clone, Copy)]
 pub enum Behind {
     To(usize),
     Full,

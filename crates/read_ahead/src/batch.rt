@@ -24,7 +24,7 @@ const WAY: usize = 3;
 const WAYS: usize = 96;
 
 // How many ways lead on, and a byte of what was read for one of them, or the sum of the bytes for all of them.
-#[derive(Drop)]
+#[derive(Clone, Copy)]
 struct Gone {
     on: usize,
     sum: usize,

@@ -26,14 +26,14 @@ use rewind_records::turn::{Turn, next_record};
 use rewind_steps::{Made, Stand, make_step};
 
 // A rewind under way: how many slots of the forward table are used, and how many records are behind.
-#[derive(Drop)]
+#[derive(Clone, Copy)]
 pub struct Rewind {
     pub used: usize,
     pub position: usize,
 }
 
 // What a start answers: the rewind, whose used slots are those of both tables; or a refusal's number.
-#[derive(Drop)]
+#[derive(Clone, Copy)]
 pub enum Started {
     Begun(Rewind),
     Refused(u32),
@@ -41,7 +41,7 @@ pub enum Started {
 
 // What a step without text answers: names and end of the path of the record's parent, that no record is left, or a refusal's
 // number.
-#[derive(Drop)]
+#[derive(Clone, Copy)]
 pub enum NextChain {
     Record(ResolvedPath),
     End,
@@ -49,7 +49,7 @@ pub enum NextChain {
 }
 
 // What a step with text answers: also how many bytes the record's own path takes.
-#[derive(Drop)]
+#[derive(Clone, Copy)]
 pub enum NextPath {
     Record { path: ResolvedPath, text: usize },
     End,
@@ -57,13 +57,13 @@ pub enum NextPath {
 }
 
 // An answer with the rewind after it, which is the one before it where nothing was rewound.
-#[derive(Drop)]
+#[derive(Clone, Copy)]
 pub struct ChainStep {
     pub next: NextChain,
     pub rewind: Rewind,
 }
 
-#[derive(Drop)]
+#[derive(Clone, Copy)]
 pub struct PathStep {
     pub next: NextPath,
     pub rewind: Rewind,

@@ -36,7 +36,7 @@ fn all_records(journal: &[u8], records: &[usize]) -> bool
 }
 
 // The next record, the end of the records, or a refusal.
-#[derive(Drop)]
+#[derive(Clone, Copy)]
 pub enum Turn {
     Entry(RecordEntry),
     End,

@@ -14,7 +14,7 @@ use rewind_records::turn::refusal;
 use run_steps::{RewindRun, run};
 
 // What a call answers: its run, or a refusal's number.
-#[derive(Drop)]
+#[derive(Clone, Copy)]
 pub enum RunAnswer {
     Ran(RewindRun),
     Refused(u32),

@@ -20,7 +20,7 @@ use entry_table::adding::add_found;
 use path::ways::{Behind, put_behind};
 
 // Where a rewind stands: how many slots of the forward table are used, and where the text so far ends.
-#[derive(Drop)]
+#[derive(Clone, Copy)]
 pub struct Stand {
     pub used: usize,
     pub at: usize,
@@ -28,7 +28,7 @@ pub struct Stand {
 
 // What a step comes to: where its text ends and how many slots are used then, with the names and the end of its parent's path, whose
 // slots the way has; that no record is left; or a refusal's number.
-#[derive(Drop)]
+#[derive(Clone, Copy)]
 pub enum Made {
     To {
         at: usize,
@@ -40,7 +40,7 @@ pub enum Made {
 }
 
 // What a table held before a record went into it: what stood in the record's slot, and how many slots were used.
-#[derive(Drop)]
+#[derive(Clone, Copy)]
 pub(crate) struct Held {
     slot: usize,
     key: EntryKey,
@@ -49,7 +49,7 @@ pub(crate) struct Held {
 }
 
 // A record that is in the table: what it says, and what the table held before.
-#[derive(Drop)]
+#[derive(Clone, Copy)]
 pub(crate) struct Entered {
     info: EntryInfo,
     held: Held,

@@ -14,7 +14,7 @@ use rewind_steps::{Made, Stand, make_step};
 
 // A run of steps: how many were made, 0 or what stopped it before the next one, 6 or 8, and the rewind after the last one that was
 // made.
-#[derive(Drop)]
+#[derive(Clone, Copy)]
 pub struct RewindRun {
     pub steps: usize,
     pub stopped: u32,
@@ -22,7 +22,7 @@ pub struct RewindRun {
 }
 
 // Where a run stands: its rewind, and where the text so far ends.
-#[derive(Drop)]
+#[derive(Clone, Copy)]
 pub(crate) struct Standing {
     rewind: Rewind,
     at: usize,

@@ -17,7 +17,7 @@ const FILETIME_2000: u64 = 125_911_584_000_000_000;
 const FILETIME_2030: u64 = 135_379_776_000_000_000;
 
 // What a run counted. Every candidate is carved or rejected, for its structure or else for its time.
-#[derive(Drop)]
+#[derive(Clone, Copy)]
 pub struct CarvingStats {
     pub bytes_scanned: usize,
     pub candidates_examined: u64,
@@ -27,7 +27,7 @@ pub struct CarvingStats {
 }
 
 // What carving answers: its counters, or a refusal's number.
-#[derive(Drop)]
+#[derive(Clone, Copy)]
 pub enum Carving {
     Carved(CarvingStats),
     Refused(u32),

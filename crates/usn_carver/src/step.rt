@@ -13,7 +13,7 @@ use usn_record::layout::{
 
 // What a visit says, with the offset of the next one: the extract ends, a zero word or nothing of interest is passed, or a
 // candidate of a version is rejected, or carved with its length.
-#[derive(Drop)]
+#[derive(Clone, Copy)]
 pub enum CarveStep {
     Stop,
     Zero(usize),

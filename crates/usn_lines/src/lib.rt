@@ -22,14 +22,14 @@ use utf16::decimal::put_decimal;
 use utf16::plain::{put_byte, put_bytes};
 
 // A listing that begins: how many records it has, and the rewind of them.
-#[derive(Drop)]
+#[derive(Clone, Copy)]
 pub struct Begun {
     pub records: usize,
     pub rewind: Rewind,
 }
 
 // What is at the front of a text: where it ends, and the rewind after it.
-#[derive(Drop)]
+#[derive(Clone, Copy)]
 pub struct Put {
     pub end: usize,
     pub rewind: Rewind,

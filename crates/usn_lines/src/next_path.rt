@@ -18,7 +18,7 @@ use utf16::plain::put_byte;
 const MOST_PATH: usize = 65536;
 
 // A step with text: how many are made, which is 0 or 1, where the path ends, and the rewind after it.
-#[derive(Drop)]
+#[derive(Clone, Copy)]
 pub(crate) struct TextStep {
     pub(crate) steps: usize,
     pub(crate) end: usize,

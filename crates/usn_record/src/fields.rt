@@ -13,7 +13,7 @@ use base::Place;
 const EPOCH_DIFF: u64 = 116_444_736_000_000_000;
 
 // A file reference: the MFT entry, its sequence where the version keeps one, and the upper 64 bits of a 16-byte reference.
-#[derive(Drop)]
+#[derive(Clone, Copy)]
 pub struct Reference {
     pub entry: u64,
     pub sequence: u16,

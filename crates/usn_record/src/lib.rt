@@ -19,14 +19,14 @@ use crate::parse::parse;
 use base::{NOT_A_RECORD, Place};
 
 // Seconds and nanoseconds since 1970.
-#[derive(Drop)]
+#[derive(Clone, Copy)]
 pub struct Timestamp {
     pub seconds: u64,
     pub nanoseconds: u32,
 }
 
 // A parsed USN record of the journal.
-#[derive(Drop)]
+#[derive(Clone, Copy)]
 pub struct UsnRecord {
     // The file's or folder's MFT entry and sequence.
     pub mft_entry: u64,
@@ -55,7 +55,7 @@ pub struct UsnRecord {
 }
 
 // What a parser answers: the record, or a refusal's number.
-#[derive(Drop)]
+#[derive(Clone, Copy)]
 pub enum Parsed {
     Record(UsnRecord),
     Refused(u32),

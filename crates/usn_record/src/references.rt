@@ -7,7 +7,7 @@ use crate::fields::{Reference, parts_of, read_reference};
 use crate::layout::{FILE_REFERENCE, MAJOR_VERSION, PARENT_REFERENCE_V2, PARENT_REFERENCE_V3};
 
 // The references of a record: that of its file, and that of the folder it stands in.
-#[derive(Drop)]
+#[derive(Clone, Copy)]
 pub struct References {
     pub file: Reference,
     pub parent: Reference,

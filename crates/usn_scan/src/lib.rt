@@ -10,7 +10,7 @@ use crate::records::{has_room, write_records};
 use base::{ABOVE_DOMAIN, DOMAIN, LIST_FULL};
 
 // What a scan answers: how many records it listed, or a refusal's number.
-#[derive(Drop)]
+#[derive(Clone, Copy)]
 pub enum Scanned {
     Records(usize),
     Refused(u32),

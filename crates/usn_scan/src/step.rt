@@ -14,7 +14,7 @@ use usn_record::{Parsed, parse_usn_record_v2, parse_usn_record_v3};
 
 // What a visit says: stop, go on at the next offset, or the place of a record and the offset past it. A version 4 record tracks
 // changed ranges and is a range.
-#[derive(Drop)]
+#[derive(Clone, Copy)]
 pub enum ScanStep {
     Stop,
     Move(usize),

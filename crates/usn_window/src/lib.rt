@@ -23,7 +23,7 @@ pub const BUF_SIZE: usize = WINDOW_SIZE;
 
 // The window's numbers. The buffer holds the stream's bytes from start on, up to held of them; records are read from position on up
 // to end; ended says that nothing is wanted any more.
-#[derive(Drop)]
+#[derive(Clone, Copy)]
 pub struct UsnJournalReader {
     pub start: usize,
     pub position: usize,
@@ -34,7 +34,7 @@ pub struct UsnJournalReader {
 }
 
 // What a call answers.
-#[derive(Drop)]
+#[derive(Clone, Copy)]
 pub enum Answer {
     // A record: its place in the stream, and its fields. The place of its name counts from the start of the buffer.
     Record {
@@ -54,7 +54,7 @@ pub enum Answer {
 }
 
 // An answer, and the window after it.
-#[derive(Drop)]
+#[derive(Clone, Copy)]
 pub struct Reading {
     pub answer: Answer,
     pub reader: UsnJournalReader,

@@ -11,7 +11,7 @@ use usn_record::zeros::skip_zeros;
 use usn_record::{Parsed, UsnRecord, listed_record};
 
 // What a turn does: it answers, or goes on from another position.
-#[derive(Drop)]
+#[derive(Clone, Copy)]
 pub enum Turn {
     Done(Reading),
     Again(UsnJournalReader),

@@ -11,7 +11,7 @@ use usn_record::bytes::le_u16;
 const REPLACEMENT_CHARACTER: u32 = 0xFFFD;
 
 // A code point, and how many units it takes.
-#[derive(Drop)]
+#[derive(Clone, Copy)]
 pub struct CodePoint {
     pub code: u32,
     pub units: usize,

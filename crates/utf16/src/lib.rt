@@ -14,7 +14,7 @@ use crate::name::{has_room, put_name};
 use base::{ABOVE_DOMAIN, DOMAIN, TEXT_FULL};
 
 // What decoding answers: how many bytes the text takes, or a refusal's number.
-#[derive(Drop)]
+#[derive(Clone, Copy)]
 pub enum Decoded {
     Text(usize),
     Refused(u32),

@@ -15,7 +15,7 @@ pub const CHAIN_WORDS: usize = 4;
 pub const PATH_WORDS: usize = 5;
 
 // What a chain ends in, as numbers: 0 the root, 1 an unknown key, 2 an unresolved one, and the key, which the root lacks.
-#[derive(Drop)]
+#[derive(Clone, Copy)]
 pub struct EndNumbers {
     pub kind: u64,
     pub entry: u64,
