@@ -2,6 +2,8 @@
 // the table has room for all of them.
 //
 // Every function here is proved. They are helpers of our own crates.
+#![tactic(auto)]
+
 pub mod carved;
 pub mod entries;
 pub mod room;

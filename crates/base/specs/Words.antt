@@ -1,6 +1,6 @@
 -- How an outcome goes out of a C function: a number, and words in lent lists. Each record says it of lists: what the lent slices hold before, and, with ', after.
 use Rattle.std.specs.Prelude.{ℕ, ◌≡◌, List, [], ◌∷◌, ◌++◌, Bool, cond, ltb, eqb}
-use Rattle.base.specs.Lent.{Lent, before, after}
+use Rattle.base.specs.Lent.{Lent, MutLent, before, before_mut, after}
 use Rattle.base.specs.Lists.{overwrite, list_after}
 use Rattle.base.specs.Outcome.{Outcome, refused, answered}
 use Rattle.base.specs.Refusals.{above_domain, list_full}
@@ -36,19 +36,19 @@ pub record RowOut (words out : List ℕ) (r : ℕ) (out' : List ℕ) : Type 0 wh
   pub answer : r ≡ 0
   pub row : out' ≡ overwrite out words
 
-abbrev pub RowPromise : Lent → Lent → ℕ → Type 0
-RowPromise words out r = RowOut (before words) (before out) r (after out)
+abbrev pub RowPromise : Lent → MutLent → ℕ → Type 0
+RowPromise words out r = RowOut (before words) (before_mut out) r (after out)
 
-abbrev pub RowsPromise : Lent → Lent → Lent → ℕ → Type 0
-RowsPromise front rest out r = RowOut (before front ++ before rest) (before out) r (after out)
+abbrev pub RowsPromise : Lent → Lent → MutLent → ℕ → Type 0
+RowsPromise front rest out r = RowOut (before front ++ before rest) (before_mut out) r (after out)
 
 -- an answer: its number, and its words
 pub record Answers {A : Type 0} (words : A → List ℕ) (o : Outcome A) (out : List ℕ) (r : ℕ) (out' : List ℕ) : Type 0 where
   pub answer : r ≡ number o
   pub row : out' ≡ list_after words o out
 
-abbrev pub AnswerPromise : {A : Type 0} → (A → List ℕ) → Outcome A → Lent → ℕ → Type 0
-AnswerPromise words o out r = Answers words o (before out) r (after out)
+abbrev pub AnswerPromise : {A : Type 0} → (A → List ℕ) → Outcome A → MutLent → ℕ → Type 0
+AnswerPromise words o out r = Answers words o (before_mut out) r (after out)
 
 -- an answer with a list: its number, the list, and its words
 pub record Lists {A : Type 0} (items words : A → List ℕ) (o : Outcome A) (list out : List ℕ) (r : ℕ) (list' out' : List ℕ) : Type 0 where
@@ -56,5 +56,5 @@ pub record Lists {A : Type 0} (items words : A → List ℕ) (o : Outcome A) (li
   pub list-is : list' ≡ list_after items o list
   pub row : out' ≡ list_after words o out
 
-abbrev pub ListPromise : {A : Type 0} → (A → List ℕ) → (A → List ℕ) → Outcome A → Lent → Lent → ℕ → Type 0
-ListPromise items words o list out r = Lists items words o (before list) (before out) r (after list) (after out)
+abbrev pub ListPromise : {A : Type 0} → (A → List ℕ) → (A → List ℕ) → Outcome A → MutLent → MutLent → ℕ → Type 0
+ListPromise items words o list out r = Lists items words o (before_mut list) (before_mut out) r (after list) (after out)

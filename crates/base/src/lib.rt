@@ -3,6 +3,8 @@
 // in specs/ and proofs/.
 //
 // Every function here is proved. The writers ask for room: they are helpers of our own crates and not offered as calls.
+#![tactic(auto)]
+
 pub mod words;
 
 ghost use Rattle.std.specs.Prelude.{◌≡◌, [], ◌∷◌, ◌+◌, ◌≤◌, length};

@@ -3,7 +3,7 @@
 use Rattle.std.specs.Prelude.{ℕ, ◌≡◌, List, map}
 use Rattle.std.specs.Borrow.{Bor}
 use denote.Triple.Both.{Both}
-use Rattle.base.specs.Lent.{Lent, before, after}
+use Rattle.base.specs.Lent.{Lent, MutLent, before, before_mut, after}
 use Rattle.base.specs.Outcome.{Outcome, refused, answered}
 use Rattle.mft_carver.specs.declared.CarvedMftEntry.{CarvedMftEntry}
 use Rattle.entry_slots.specs.Names.{lengths_of}
@@ -32,12 +32,12 @@ pub record StoresInNumbers (o : Outcome Table) (used : ℕ) (words : List ℕ) (
   pub answer : r ≡ in_numbers used (used_after o)
   pub slots-are : words' ≡ words_after o words
 
-module _ (journal image slots : Lent) (used : ℕ) (entries : LentEntries) where
+module _ (journal image : Lent) (slots : MutLent) (used : ℕ) (entries : LentEntries) where
   abbrev pub seed_out : Outcome Table
-  seed_out = seeded_from (before journal) (before image) (before slots) used entries.entry.now
+  seed_out = seeded_from (before journal) (before image) (before_mut slots) used entries.entry.now
 
   abbrev pub SeedFromCarvedPromise : Stored → Type 0
-  SeedFromCarvedPromise r = Stores seed_out (before slots) r (after slots)
+  SeedFromCarvedPromise r = Stores seed_out (before_mut slots) r (after slots)
 
   abbrev pub SeedEntriesPromise : Seeded → Type 0
-  SeedEntriesPromise r = StoresInNumbers seed_out used (before slots) r (after slots)
+  SeedEntriesPromise r = StoresInNumbers seed_out used (before_mut slots) r (after slots)

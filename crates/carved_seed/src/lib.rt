@@ -2,6 +2,8 @@
 //
 // Every function here is proved. The public calls have no `requires`: any table and any entries get an answer. They answer and
 // write what `entry_table::seed` does on the flat list of the same entries.
+#![tactic(auto)]
+
 mod carved;
 mod names;
 mod room;

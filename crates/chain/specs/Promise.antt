@@ -1,6 +1,6 @@
 -- What the call promises. The record says it of lists: what the lent slices hold before, and, with ', after. The promise itself takes the call's parameters.
 use Rattle.std.specs.Prelude.{ℕ, ◌+◌, ◌-◌, ◌*◌, ◌^◌, ◌≤◌, ◌<◌, ◌≡◌, List, ◌++◌, length, get_or}
-use Rattle.base.specs.Lent.{Lent, before, after}
+use Rattle.base.specs.Lent.{Lent, MutLent, before, before_mut, after}
 use Rattle.base.specs.Outcome.{Outcome, map_outcome}
 use Rattle.entry_slots.specs.Names.{lengths_of}
 use Rattle.entry_slots.specs.Slots.{info_at}
@@ -18,9 +18,9 @@ pub record Chains (o : Outcome Chain) (list : List ℕ) (r : ChainAnswer) (list'
   pub answer : outcome r ≡ map_outcome resolved o
   pub places : list' ≡ chain_after o list
 
-abbrev pub ChainPromise : Lent → Lent → Lent → ℕ → EntryKey → Lent → ChainAnswer → Type 0
+abbrev pub ChainPromise : Lent → Lent → Lent → ℕ → EntryKey → MutLent → ChainAnswer → Type 0
 ChainPromise journal image slots used key list r =
-    Chains (tracing (lengths_of (before journal) (before image)) (table (before slots) used) depth key) (before list) r (after list)
+    Chains (tracing (lengths_of (before journal) (before image)) (table (before slots) used) depth key) (before_mut list) r (after list)
 
 -- a way of as many slots as levels are gone, whose names take so many bytes at most, that goes on by a chain to its end: how many slots it has then, what they
 -- hang under, the most that all names take, in the last word, the names of all slots, and that these are used ones if the first are
@@ -38,8 +38,8 @@ pub record RiseAsks (words way : List ℕ) (n : ℕ) (k : EntryKey) (bound : ℕ
   pub sum : bound + n * 1099511627776 < 2 ^ 63
   pub reached : 0 < levels - n → (info_at words (get_or way (levels - n - 1) 0)).parent ≡ k
 
-abbrev pub RisePromise : Lent → ℕ → EntryKey → ℕ → Lent → ℕ → ℕ → Type 0
-RisePromise slots used key levels way bound r = Rises (table (before slots) used) levels key (before way) bound r (after way)
+abbrev pub RisePromise : Lent → ℕ → EntryKey → ℕ → MutLent → ℕ → ℕ → Type 0
+RisePromise slots used key levels way bound r = Rises (table (before slots) used) levels key (before_mut way) bound r (after way)
 
 -- the whole way of a key that is asked for: its chain, the most that its names take, and that its slots are used ones
 pub record Climbs (t : Table) (k : EntryKey) (r : Climbed) (way' : List ℕ) : Type 0 where
@@ -47,5 +47,5 @@ pub record Climbs (t : Table) (k : EntryKey) (r : Climbed) (way' : List ℕ) : T
   pub bounds : r.bound ≡ names_bound (way_places t.words way' r.names)
   pub below : Below t.used way' r.names
 
-abbrev pub ClimbPromise : Lent → ℕ → EntryKey → Lent → Climbed → Type 0
+abbrev pub ClimbPromise : Lent → ℕ → EntryKey → MutLent → Climbed → Type 0
 ClimbPromise slots used key way r = Climbs (table (before slots) used) key r (after way)

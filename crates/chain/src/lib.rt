@@ -6,6 +6,8 @@
 //
 // Every function here is proved. The call has no `requires`: any table and key get an answer. Of journal and image only the
 // lengths are used, so names decide nothing.
+#![tactic(auto)]
+
 pub mod steps;
 pub mod tracing;
 pub mod way;

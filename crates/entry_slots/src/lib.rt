@@ -9,6 +9,8 @@
 //
 // Every function here is proved. They are helpers of our own crates, and ask for slots that are there and for an index that is
 // the table's; the calls that store are those of `entry_table`.
+#![tactic(auto)]
+
 pub mod links;
 pub mod names;
 pub mod slots;

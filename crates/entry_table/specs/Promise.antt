@@ -1,7 +1,7 @@
 -- What the calls promise that store. Each record says it of lists: what the lent slices hold before, and, with ', after, where the call comes to o. The promise
 -- itself takes the call's parameters.
 use Rattle.std.specs.Prelude.{ℕ, ◌≡◌, List, [], ◌∷◌, Bool, length}
-use Rattle.base.specs.Lent.{Lent, before, after}
+use Rattle.base.specs.Lent.{Lent, MutLent, before, before_mut, after}
 use Rattle.base.specs.Outcome.{Outcome, refused, answered}
 use Rattle.entry_slots.specs.Names.{Lengths, lengths_of}
 use Rattle.entry_slots.specs.Slots.{slots_in}
@@ -37,40 +37,40 @@ pub record StoresIndexed (o : Outcome Table) (words heads nexts : List ℕ) (r :
   pub nexts-are : nexts' ≡ nexts_left (slots_in words) o heads nexts
 
 -- of lent slices: an addition, with no index and with one, and that of all carved entries
-module _ (slots : Lent) (used : ℕ) where
+module _ (slots : MutLent) (used : ℕ) where
   abbrev pub add_out : EntryKey → EntryInfo → Bool → Outcome Table
-  add_out key info replace = adding (table (before slots) used) (addition key info replace ∷ [])
+  add_out key info replace = adding (table (before_mut slots) used) (addition key info replace ∷ [])
 
   abbrev pub AddPromise : EntryKey → EntryInfo → Bool → Stored → Type 0
-  AddPromise key info replace r = Stores (add_out key info replace) (before slots) r (after slots)
+  AddPromise key info replace r = Stores (add_out key info replace) (before_mut slots) r (after slots)
 
-abbrev pub StoreByPromise : Lent → Lent → Lent → Outcome Table → Stored → Type 0
-StoreByPromise slots heads nexts o r = StoresBy o (before slots) (before heads) (before nexts) r (after slots) (after heads) (after nexts)
+abbrev pub StoreByPromise : MutLent → MutLent → MutLent → Outcome Table → Stored → Type 0
+StoreByPromise slots heads nexts o r = StoresBy o (before_mut slots) (before_mut heads) (before_mut nexts) r (after slots) (after heads) (after nexts)
 
-abbrev pub AddByPromise : Lent → ℕ → Lent → Lent → EntryKey → EntryInfo → Bool → Stored → Type 0
+abbrev pub AddByPromise : MutLent → ℕ → MutLent → MutLent → EntryKey → EntryInfo → Bool → Stored → Type 0
 AddByPromise slots used heads nexts key info replace = StoreByPromise slots heads nexts (add_out slots used key info replace)
 
-abbrev pub AddCarvedPromise : Lent → ℕ → Lent → Lent → Lent → Stored → Type 0
-AddCarvedPromise slots used entries heads nexts = StoreByPromise slots heads nexts (adding (table (before slots) used) (carved_in (before entries)))
+abbrev pub AddCarvedPromise : MutLent → ℕ → Lent → MutLent → MutLent → Stored → Type 0
+AddCarvedPromise slots used entries heads nexts = StoreByPromise slots heads nexts (adding (table (before_mut slots) used) (carved_in (before entries)))
 
 -- of the calls
-abbrev pub StorePromise : Lengths → Lent → ℕ → EntryKey → EntryInfo → Bool → Stored → Type 0
+abbrev pub StorePromise : Lengths → MutLent → ℕ → EntryKey → EntryInfo → Bool → Stored → Type 0
 StorePromise lengths slots used key info replace r =
-    Stores (inserting lengths (table (before slots) used) key info replace) (before slots) r (after slots)
+    Stores (inserting lengths (table (before_mut slots) used) key info replace) (before_mut slots) r (after slots)
 
-module _ (journal image slots : Lent) (used : ℕ) where
+module _ (journal image : Lent) (slots : MutLent) (used : ℕ) where
   abbrev pub InsertPromise : EntryKey → EntryInfo → Bool → Stored → Type 0
   InsertPromise = StorePromise (lengths_of (before journal) (before image)) slots used
 
   abbrev pub seed_out : Lent → Outcome Table
-  seed_out entries = seeding (lengths_of (before journal) (before image)) (table (before slots) used) (before entries)
+  seed_out entries = seeding (lengths_of (before journal) (before image)) (table (before_mut slots) used) (before entries)
 
   abbrev pub SeedPromise : Lent → Stored → Type 0
-  SeedPromise entries r = Stores (seed_out entries) (before slots) r (after slots)
+  SeedPromise entries r = Stores (seed_out entries) (before_mut slots) r (after slots)
 
-  abbrev pub SeedByPromise : Lent → Lent → Lent → Stored → Type 0
+  abbrev pub SeedByPromise : Lent → MutLent → MutLent → Stored → Type 0
   SeedByPromise entries heads nexts = StoreByPromise slots heads nexts (seed_out entries)
 
-  abbrev pub SeedIndexedPromise : Lent → Lent → Lent → Stored → Type 0
+  abbrev pub SeedIndexedPromise : Lent → MutLent → MutLent → Stored → Type 0
   SeedIndexedPromise entries heads nexts r =
-      StoresIndexed (seed_out entries) (before slots) (before heads) (before nexts) r (after slots) (after heads) (after nexts)
+      StoresIndexed (seed_out entries) (before_mut slots) (before_mut heads) (before_mut nexts) r (after slots) (after heads) (after nexts)

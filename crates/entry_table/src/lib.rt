@@ -7,6 +7,8 @@
 // Every function here is proved. No public call has a `requires`: any table and any entry get an answer. Of journal and image
 // only the lengths are used, so names decide nothing. The functions of the modules are helpers of our own crates, and ask for room
 // and for an index that is the table's.
+#![tactic(auto)]
+
 pub mod adding;
 mod seeding;
 

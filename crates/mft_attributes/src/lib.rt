@@ -2,5 +2,7 @@
 //
 // Every function here is proved. No function that another crate calls has a `requires`: any bytes, any first offset and any number of
 // attributes get an answer.
+#![tactic(auto)]
+
 pub mod attributes;
 pub mod filename;

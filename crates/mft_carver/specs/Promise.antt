@@ -1,7 +1,7 @@
 -- What the calls promise. Each record says it of lists: what the lent slices hold before, and, with ', after. The promise itself takes the call's parameters.
 use Rattle.std.specs.Prelude.{ℕ, ◌*◌, ◌/◌, ◌≤◌, ◌≡◌, List, Bool, true, cond, length}
 use Rattle.std.proofs.lemmas.List.Edits.{sets}
-use Rattle.base.specs.Lent.{Lent, before, after}
+use Rattle.base.specs.Lent.{Lent, MutLent, before, before_mut, after}
 use Rattle.base.specs.Lists.{flatten, overwrite}
 use Rattle.base.specs.Refusals.{domain}
 use Rattle.mft_carver.specs.declared.Settings.{Settings}
@@ -15,8 +15,8 @@ pub record Carves (st : Settings) (image list : List ℕ) (r : MftCarving) (list
   pub answer : outcome r ≡ carving st image (length list)
   pub list-is : list' ≡ carving_list st image list
 
-abbrev pub CarvePromise : Settings → Lent → Lent → MftCarving → Type 0
-CarvePromise st image list r = Carves st (before image) (before list) r (after list)
+abbrev pub CarvePromise : Settings → Lent → MutLent → MftCarving → Type 0
+CarvePromise st image list r = Carves st (before image) (before_mut list) r (after list)
 
 -- a list after an entry behind n others, where entries are written
 unfoldable pub entry_put : Bool → List ℕ → ℕ → CarvedMftEntry → List ℕ
@@ -33,5 +33,5 @@ pub record Passes (st : Settings) (image : List ℕ) (writes : Bool) (list : Lis
   pub counters : r ≡ stats_in st image
   pub list-is : list' ≡ cond writes (overwrite list (flatten entry_words (entries_in st image))) list
 
-abbrev pub PassPromise : Settings → Lent → Bool → Lent → MftCarvingStats → Type 0
-PassPromise st image writes list r = Passes st (before image) writes (before list) r (after list)
+abbrev pub PassPromise : Settings → Lent → Bool → MutLent → MftCarvingStats → Type 0
+PassPromise st image writes list r = Passes st (before image) writes (before_mut list) r (after list)

@@ -2,6 +2,8 @@
 // of its file or folder, with its name as a place in the image.
 //
 // Every function here is proved. The call has no `requires`: any image and any list get an answer.
+#![tactic(auto)]
+
 mod entry;
 mod fill;
 mod step;

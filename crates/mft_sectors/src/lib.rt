@@ -3,6 +3,8 @@
 // was stored by its place in an image.
 //
 // Every function here is proved. They are helpers of our own crates.
+#![tactic(auto)]
+
 pub mod reads;
 pub mod signature;
 pub mod sound;

@@ -2,7 +2,7 @@
 -- itself takes the call's parameters.
 use Rattle.std.specs.Prelude.{ℕ, ◌+◌, ◌≤◌, ◌<◌, ◌≡◌, List, true, cond, length, get_or}
 use Rattle.std.proofs.lemmas.List.Edits.{sets}
-use Rattle.base.specs.Lent.{Lent, before, after}
+use Rattle.base.specs.Lent.{Lent, MutLent, before, before_mut, after}
 use Rattle.base.specs.Lists.{list_after}
 use Rattle.base.specs.Outcome.{Outcome, map_outcome}
 use Rattle.base.specs.Refusals.{domain}
@@ -33,9 +33,9 @@ module _ (journal image : List ℕ) (t : Table) (key : EntryKey) (list text : Li
     pub places : list' ≡ chain_after path_out list
     pub written : text' ≡ list_after (path_text journal image) path_out text
 
-abbrev pub PathPromise : Lent → Lent → Lent → ℕ → EntryKey → Lent → Lent → PathAnswer → Type 0
+abbrev pub PathPromise : Lent → Lent → Lent → ℕ → EntryKey → MutLent → MutLent → PathAnswer → Type 0
 PathPromise journal image slots used key list text r =
-    Paths (before journal) (before image) (table (before slots) used) key (before list) (before text) r (after list) (after text)
+    Paths (before journal) (before image) (table (before slots) used) key (before_mut list) (before_mut text) r (after list) (after text)
 
 -- what is known before the names of a way are told: its slots are slots of these words, their names are inside, and its bound is theirs
 pub record WayAsks (journal image words way : List ℕ) (up : Climbed) : Type 0 where
@@ -55,9 +55,9 @@ module _ (journal image slots way : Lent) (up : Climbed) where
   chain_of_way = chain_by (before slots) (before way) up
 
   -- the path of a way, at the front of a text
-  abbrev pub FrontPromise : Lent → Behind → Type 0
-  FrontPromise text r = Behinds (path_text (before journal) (before image) chain_of_way) (before text) 0 r (after text)
+  abbrev pub FrontPromise : MutLent → Behind → Type 0
+  FrontPromise text r = Behinds (path_text (before journal) (before image) chain_of_way) (before_mut text) 0 r (after text)
 
   -- the path of an entry by its parent's way and its own name
-  abbrev pub BehindPromise : NamePlace → Lent → ℕ → Behind → Type 0
-  BehindPromise name text at r = Behinds (entry_text (before journal) (before image) chain_of_way name) (before text) at r (after text)
+  abbrev pub BehindPromise : NamePlace → MutLent → ℕ → Behind → Type 0
+  BehindPromise name text at r = Behinds (entry_text (before journal) (before image) chain_of_way name) (before_mut text) at r (after text)

@@ -5,6 +5,8 @@
 //
 // Every function here is proved. The call has no `requires`: any table and key get an answer. Of journal and image the
 // lengths decide all but the text and whether it fits.
+#![tactic(auto)]
+
 pub mod ways;
 
 ghost use Rattle.path.specs.Promise.{PathPromise};

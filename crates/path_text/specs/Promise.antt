@@ -1,6 +1,6 @@
 -- What the call promises. The record says it of lists: what the lent slices hold before, and, with ', after. The promise itself takes the call's parameters.
 use Rattle.std.specs.Prelude.{ℕ, ◌≡◌, List, length}
-use Rattle.base.specs.Lent.{Lent, before, after}
+use Rattle.base.specs.Lent.{Lent, MutLent, before, before_mut, after}
 use Rattle.base.specs.Lists.{list_after}
 use Rattle.base.specs.Outcome.{Outcome, map_outcome}
 use Rattle.utf16.specs.Decoding.{outcome as decoded_outcome}
@@ -18,6 +18,6 @@ module _ (journal image : List ℕ) (p : NamePlace) (text : List ℕ) where
     pub answer : decoded_outcome r ≡ map_outcome (place_length journal image) decode_out
     pub written : text' ≡ list_after (place_text journal image) decode_out text
 
-abbrev pub DecodePromise : Lent → Lent → ℕ → ℕ → ℕ → Lent → Decoded → Type 0
+abbrev pub DecodePromise : Lent → Lent → ℕ → ℕ → ℕ → MutLent → Decoded → Type 0
 DecodePromise journal image source offset size text r =
-    Decodes (before journal) (before image) (place source offset size) (before text) r (after text)
+    Decodes (before journal) (before image) (place source offset size) (before_mut text) r (after text)

@@ -5,6 +5,8 @@
 //
 // Every function here is proved. The call has no `requires`: any place gets an answer. The lengths of journal and image decide all
 // but the text and whether it fits. The writers of `text` are helpers of our own crates, which ask for room.
+#![tactic(auto)]
+
 mod stored;
 pub mod text;
 

@@ -5,6 +5,8 @@
 // then find near what they look for. What is answered is the position up to which that is done, which nothing that is read decides.
 //
 // Every function here is proved. The two calls are helpers of our own crates; no result of a rewind depends on them.
+#![tactic(auto)]
+
 mod batch;
 
 ghost use Rattle.std.specs.Prelude.{◌≡◌, ◌+◌, ◌/◌, ◌^◌, ◌<◌, length};

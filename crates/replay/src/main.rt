@@ -14,6 +14,8 @@
 // A word has eight bytes. The file `stdout` beside src/ holds what the original answered; tests/differential wrote both (--record).
 //
 // Every function here is proved safe.
+#![tactic(auto)]
+
 mod images;
 mod paths;
 mod readers;

@@ -1,6 +1,6 @@
 -- What the calls promise. Each record says it of lists: what the lent slices hold before, and, with ', after. The promise itself takes the call's parameters.
 use Rattle.std.specs.Prelude.{ℕ, ◌≡◌, List, length}
-use Rattle.base.specs.Lent.{Lent, before, after}
+use Rattle.base.specs.Lent.{Lent, MutLent, before, before_mut, after}
 use Rattle.base.specs.Lists.{list_after}
 use Rattle.base.specs.Outcome.{Outcome, map_outcome}
 use Rattle.entry_slots.specs.Slots.{slots_in}
@@ -27,9 +27,9 @@ module _ (journal image records : List ℕ) (t : Table) (words : List ℕ) where
     pub first : first' ≡ first_after start_out t.words
     pub forward : words' ≡ forward_after start_out words
 
-abbrev pub StartPromise : Lent → Lent → Lent → Lent → ℕ → Lent → Started → Type 0
+abbrev pub StartPromise : Lent → Lent → Lent → MutLent → ℕ → MutLent → Started → Type 0
 StartPromise journal image records slots used forward r =
-    Starts (before journal) (before image) (before records) (table (before slots) used) (before forward) r (after slots) (after forward)
+    Starts (before journal) (before image) (before records) (table (before_mut slots) used) (before_mut forward) r (after slots) (after forward)
 
 -- a start by way of an index: what a start promises, and the index of the first table
 module _ (journal image records : List ℕ) (t : Table) (words heads nexts : List ℕ) where
@@ -47,13 +47,13 @@ module _ (journal image records : List ℕ) (t : Table) (words heads nexts : Lis
     pub heads-are : heads' ≡ heads_left (slots_in t.words) first_out heads nexts
     pub nexts-are : nexts' ≡ nexts_left (slots_in t.words) first_out heads nexts
 
-abbrev pub BeginPromise : Lent → Lent → Lent → Lent → ℕ → Lent → Lent → Lent → Started → Type 0
+abbrev pub BeginPromise : Lent → Lent → Lent → MutLent → ℕ → MutLent → MutLent → MutLent → Started → Type 0
 BeginPromise journal image records slots used forward heads nexts r =
-    Begins (before journal) (before image) (before records) (table (before slots) used) (before forward) (before heads) (before nexts) r (after slots) (after forward) (after heads) (after nexts)
+    Begins (before journal) (before image) (before records) (table (before_mut slots) used) (before_mut forward) (before_mut heads) (before_mut nexts) r (after slots) (after forward) (after heads) (after nexts)
 
-abbrev pub StartIndexedPromise : Lent → Lent → Lent → Lent → ℕ → Lent → Lent → Lent → Started → Type 0
+abbrev pub StartIndexedPromise : Lent → Lent → Lent → MutLent → ℕ → MutLent → MutLent → MutLent → Started → Type 0
 StartIndexedPromise journal image records slots used forward heads nexts r =
-    StartsIndexed (before journal) (before image) (before records) (table (before slots) used) (before forward) (before heads) (before nexts) r (after slots) (after forward) (after heads) (after nexts)
+    StartsIndexed (before journal) (before image) (before records) (table (before_mut slots) used) (before_mut forward) (before_mut heads) (before_mut nexts) r (after slots) (after forward) (after heads) (after nexts)
 
 -- a step without text: its answer, the state after it, the words of the forward table and the list of places
 module _ (journal image records words : List ℕ) (rewind : Rewind) (list : List ℕ) where
@@ -66,9 +66,9 @@ module _ (journal image records words : List ℕ) (rewind : Rewind) (list : List
     pub forward : words' ≡ words_after chain_out words
     pub places : list' ≡ chain_after chain_out list
 
-abbrev pub NextChainPromise : Lent → Lent → Lent → Rewind → Lent → Lent → ChainStep → Type 0
+abbrev pub NextChainPromise : Lent → Lent → Lent → Rewind → MutLent → MutLent → ChainStep → Type 0
 NextChainPromise journal image records rewind forward list r =
-    ChainSteps (before journal) (before image) (before records) (before forward) rewind (before list) r (after forward) (after list)
+    ChainSteps (before journal) (before image) (before records) (before_mut forward) rewind (before_mut list) r (after forward) (after list)
 
 -- a step with text that comes to o: the text too
 pub record PathSteps (journal image : List ℕ) (o : Outcome (Next Step)) (rewind : Rewind) (words list text : List ℕ) (r : PathStep) (words' list' text' : List ℕ) : Type 0 where
@@ -78,7 +78,7 @@ pub record PathSteps (journal image : List ℕ) (o : Outcome (Next Step)) (rewin
   pub places : list' ≡ chain_after o list
   pub written : text' ≡ list_after (next_text journal image) o text
 
-abbrev pub NextPromise : Lent → Lent → Lent → Rewind → Lent → Lent → Lent → PathStep → Type 0
+abbrev pub NextPromise : Lent → Lent → Lent → Rewind → MutLent → MutLent → MutLent → PathStep → Type 0
 NextPromise journal image records rewind forward list text r =
-    let o = stepped_with_text (before journal) (before image) (before records) (before forward) rewind (length (before text)) in
-    PathSteps (before journal) (before image) o rewind (before forward) (before list) (before text) r (after forward) (after list) (after text)
+    let o = stepped_with_text (before journal) (before image) (before records) (before_mut forward) rewind (length (before_mut text)) in
+    PathSteps (before journal) (before image) o rewind (before_mut forward) (before_mut list) (before_mut text) r (after forward) (after list) (after text)

@@ -10,6 +10,8 @@
 //
 // Every function here is proved. No call has a `requires`: any bytes, lists, tables and states get an answer. Names decide
 // nothing but the text and whether it fits.
+#![tactic(auto)]
+
 mod start;
 
 ghost use Rattle.rewind.specs.Promise.{StartPromise, StartIndexedPromise, NextPromise, NextChainPromise};

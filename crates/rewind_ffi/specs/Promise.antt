@@ -1,6 +1,6 @@
 -- What the calls promise as C calls. Each record says it of lists: what the lent slices hold before, and, with ', after, where the call comes to o.
 use Rattle.std.specs.Prelude.{ℕ, ◌≡◌, List}
-use Rattle.base.specs.Lent.{Lent, before, after}
+use Rattle.base.specs.Lent.{Lent, MutLent, before, before_mut, after}
 use Rattle.base.specs.Lists.{list_after}
 use Rattle.base.specs.Outcome.{Outcome, map_outcome}
 use Rattle.base.specs.Words.{number}
@@ -25,10 +25,10 @@ pub record Starts (o : Outcome Tables) (words forward out : List ℕ) (r : ℕ) 
   pub second : forward' ≡ forward_after o forward
   pub row : out' ≡ list_after start_words o out
 
-abbrev pub StartCallPromise : Lent → Lent → Lent → Lent → ℕ → Lent → Lent → ℕ → Type 0
+abbrev pub StartCallPromise : Lent → Lent → Lent → MutLent → ℕ → MutLent → MutLent → ℕ → Type 0
 StartCallPromise journal image records slots used forward out r =
-    let o = start_call (before journal) (before image) (before records) (before slots) used (before forward) (before out) in
-    Starts o (before slots) (before forward) (before out) r (after slots) (after forward) (after out)
+    let o = start_call (before journal) (before image) (before records) (before_mut slots) used (before_mut forward) (before_mut out) in
+    Starts o (before_mut slots) (before_mut forward) (before_mut out) r (after slots) (after forward) (after out)
 
 -- a step: its number, the words of the forward table, the list of places, and the words of its answer
 pub record Steps (words : Next Step → List ℕ) (o : Outcome (Next Step)) (forward list out : List ℕ) (r : ℕ) (forward' list' out' : List ℕ) : Type 0 where
@@ -37,10 +37,10 @@ pub record Steps (words : Next Step → List ℕ) (o : Outcome (Next Step)) (for
   pub places : list' ≡ step.chain_after o list
   pub row : out' ≡ list_after words o out
 
-abbrev pub NextChainCallPromise : Lent → Lent → Lent → Rewind → Lent → Lent → Lent → ℕ → Type 0
+abbrev pub NextChainCallPromise : Lent → Lent → Lent → Rewind → MutLent → MutLent → MutLent → ℕ → Type 0
 NextChainCallPromise journal image records rewind forward chain out r =
-    let o = chain_step_call (before journal) (before image) (before records) rewind (before forward) (before out) in
-    Steps (step_words chain_step_words rewind) o (before forward) (before chain) (before out) r (after forward) (after chain) (after out)
+    let o = chain_step_call (before journal) (before image) (before records) rewind (before_mut forward) (before_mut out) in
+    Steps (step_words chain_step_words rewind) o (before_mut forward) (before_mut chain) (before_mut out) r (after forward) (after chain) (after out)
 
 -- with text
 pub record StepsWithText (bytes words : Next Step → List ℕ) (o : Outcome (Next Step)) (forward list text out : List ℕ) (r : ℕ) (forward' list' text' out' : List ℕ) : Type 0 where
@@ -50,10 +50,10 @@ pub record StepsWithText (bytes words : Next Step → List ℕ) (o : Outcome (Ne
   pub written : text' ≡ list_after bytes o text
   pub row : out' ≡ list_after words o out
 
-abbrev pub NextCallPromise : Lent → Lent → Lent → Rewind → Lent → Lent → Lent → Lent → ℕ → Type 0
+abbrev pub NextCallPromise : Lent → Lent → Lent → Rewind → MutLent → MutLent → MutLent → MutLent → ℕ → Type 0
 NextCallPromise journal image records rewind forward chain text out r =
-    let o = path_step_call (before journal) (before image) (before records) rewind (before forward) (before text) (before out) in
-    StepsWithText (next_text (before journal) (before image)) (step_words (path_step_words (before journal) (before image)) rewind) o (before forward) (before chain) (before text) (before out) r (after forward) (after chain) (after text) (after out)
+    let o = path_step_call (before journal) (before image) (before records) rewind (before_mut forward) (before_mut text) (before_mut out) in
+    StepsWithText (next_text (before journal) (before image)) (step_words (path_step_words (before journal) (before image)) rewind) o (before_mut forward) (before_mut chain) (before_mut text) (before_mut out) r (after forward) (after chain) (after text) (after out)
 
 -- a start by way of an index: what the start promises, and the words of the index of the first table
 abbrev pub first_of : Outcome Tables → Outcome Table
@@ -64,10 +64,10 @@ pub record StartCalls (o : Outcome Tables) (words forward heads nexts out : List
   pub heads-are : heads' ≡ heads_left (slots_in words) (first_of o) heads nexts
   pub nexts-are : nexts' ≡ nexts_left (slots_in words) (first_of o) heads nexts
 
-abbrev pub StartIndexedCallPromise : Lent → Lent → Lent → Lent → ℕ → Lent → Lent → Lent → Lent → ℕ → Type 0
+abbrev pub StartIndexedCallPromise : Lent → Lent → Lent → MutLent → ℕ → MutLent → MutLent → MutLent → MutLent → ℕ → Type 0
 StartIndexedCallPromise journal image records slots used forward heads nexts out r =
-    let o = start_call (before journal) (before image) (before records) (before slots) used (before forward) (before out) in
-    StartCalls o (before slots) (before forward) (before heads) (before nexts) (before out) r (after slots) (after forward) (after heads) (after nexts) (after out)
+    let o = start_call (before journal) (before image) (before records) (before_mut slots) used (before_mut forward) (before_mut out) in
+    StartCalls o (before_mut slots) (before_mut forward) (before_mut heads) (before_mut nexts) (before_mut out) r (after slots) (after forward) (after heads) (after nexts) (after out)
 
 -- many steps: the number, the words of the forward table and those of its index, the ends, the text, and the words of the answer
 module _ (journal image records words : List ℕ) (rewind : Rewind) (heads nexts ends text out : List ℕ) where
@@ -83,6 +83,6 @@ module _ (journal image records words : List ℕ) (rewind : Rewind) (heads nexts
     pub text-is : text' ≡ list_after (λ (x : Run). x.text) call text
     pub row : out' ≡ list_after run_words call out
 
-abbrev pub RunCallPromise : Lent → Lent → Lent → Rewind → Lent → Lent → Lent → Lent → Lent → Lent → ℕ → Type 0
+abbrev pub RunCallPromise : Lent → Lent → Lent → Rewind → MutLent → MutLent → MutLent → MutLent → MutLent → MutLent → ℕ → Type 0
 RunCallPromise journal image records rewind forward heads nexts ends text out r =
-    RunCalls (before journal) (before image) (before records) (before forward) rewind (before heads) (before nexts) (before ends) (before text) (before out) r (after forward) (after heads) (after nexts) (after ends) (after text) (after out)
+    RunCalls (before journal) (before image) (before records) (before_mut forward) rewind (before_mut heads) (before_mut nexts) (before_mut ends) (before_mut text) (before_mut out) r (after forward) (after heads) (after nexts) (after ends) (after text) (after out)

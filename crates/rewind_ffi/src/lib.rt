@@ -9,6 +9,8 @@
 // Every function here is proved, and none has a `requires`. A refused call writes nothing. One that answers writes of its list the words
 // of its answer alone: those past them stay as they were. Too few words for the answer are refused with 5 directly behind 1, before
 // everything else. What lies in the words for an index, specs/Promise.antt says.
+#![tactic(auto)]
+
 ghost use Rattle.rewind_ffi.specs.Promise.{StartCallPromise, NextChainCallPromise, NextCallPromise, StartIndexedCallPromise, RunCallPromise};
 ghost use Rattle.rewind_ffi.specs.Rewind.{rewind_of};
 

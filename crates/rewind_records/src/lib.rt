@@ -2,5 +2,7 @@
 // the first.
 //
 // Every function here is proved. They are helpers of our own crates.
+#![tactic(auto)]
+
 pub mod backward;
 pub mod turn;

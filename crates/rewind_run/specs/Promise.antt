@@ -1,6 +1,6 @@
 -- What the call promises, of what the lent slices hold before, and, with ', after.
 use Rattle.std.specs.Prelude.{ℕ, ◌≡◌, List, length}
-use Rattle.base.specs.Lent.{Lent, before, after}
+use Rattle.base.specs.Lent.{Lent, MutLent, before, before_mut, after}
 use Rattle.base.specs.Lists.{list_after}
 use Rattle.base.specs.Outcome.{Outcome, map_outcome}
 use Rattle.entry_slots.specs.Slots.{slots_in}
@@ -27,6 +27,6 @@ module _ (journal image records words : List ℕ) (rewind : Rewind) (heads nexts
     pub ends-are : ends' ≡ list_after (λ (x : Run). x.ends) run_out ends
     pub text-is : text' ≡ list_after (λ (x : Run). x.text) run_out text
 
-abbrev pub RunPromise : Lent → Lent → Lent → Rewind → Lent → Lent → Lent → Lent → Lent → RunAnswer → Type 0
+abbrev pub RunPromise : Lent → Lent → Lent → Rewind → MutLent → MutLent → MutLent → MutLent → MutLent → RunAnswer → Type 0
 RunPromise journal image records rewind forward heads nexts ends text r =
-    RunsIndexed (before journal) (before image) (before records) (before forward) rewind (before heads) (before nexts) (before ends) (before text) r (after forward) (after heads) (after nexts) (after ends) (after text)
+    RunsIndexed (before journal) (before image) (before records) (before_mut forward) rewind (before_mut heads) (before_mut nexts) (before_mut ends) (before_mut text) r (after forward) (after heads) (after nexts) (after ends) (after text)

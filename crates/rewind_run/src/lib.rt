@@ -5,6 +5,8 @@
 // writes the same.
 //
 // Every function here is proved. The public call has no `requires`.
+#![tactic(auto)]
+
 ghost use Rattle.rewind_run.specs.Promise.{RunPromise};
 
 use entry_slots::links::{build, is_enough};

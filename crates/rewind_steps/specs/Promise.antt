@@ -1,7 +1,7 @@
 -- What a step asks and promises. Each record says it of lists: what the lent slices hold before, and, with ', after. The promise itself takes the call's
 -- parameters.
 use Rattle.std.specs.Prelude.{ℕ, ◌-◌, ◌<◌, ◌≤◌, ◌≡◌, List, true, length}
-use Rattle.base.specs.Lent.{Lent, before, after}
+use Rattle.base.specs.Lent.{Lent, MutLent, before, before_mut, after}
 use Rattle.base.specs.Outcome.{Outcome}
 use Rattle.base.specs.Refusals.{domain}
 use Rattle.entry_slots.specs.Names.{lengths_of, inside, all_inside}
@@ -41,19 +41,19 @@ pub record StepLeaves (journal image : List ℕ) (at m : ℕ) (nexts text : List
   pub text-is : text' ≡ text_after journal image at o text
 
 -- of lent slices
-module _ (journal image forward heads nexts way text : Lent) (at : ℕ) where
+module _ (journal image : Lent) (forward heads nexts way text : MutLent) (at : ℕ) where
   abbrev pub StepPromise : Outcome (Next Step) → Table → Made → Type 0
   StepPromise o t r =
-      StepLeaves (before journal) (before image) at (length (before heads)) (before nexts) (before text) o t r (after forward) (after heads) (after nexts) (after way) (after text)
+      StepLeaves (before journal) (before image) at (length (before_mut heads)) (before_mut nexts) (before_mut text) o t r (after forward) (after heads) (after nexts) (after way) (after text)
 
   -- the text of a record that the table has; where there is no room for it, the table is again as it was without the record
   abbrev pub TellPromise : ℕ → Entered → Made → Type 0
   TellPromise used entered =
       let held = entered.held in
-      let o = step_with_text (before journal) (before image) (table (before forward) used) entered.info.parent entered.info.name (length (before text) - at) in
-      StepPromise o (table (put_at (before forward) held.slot held.key held.info) held.used)
+      let o = step_with_text (before journal) (before image) (table (before_mut forward) used) entered.info.parent entered.info.name (length (before_mut text) - at) in
+      StepPromise o (table (put_at (before_mut forward) held.slot held.key held.info) held.used)
 
   -- a step with a record
   abbrev pub MakePromise : RecordEntry → ℕ → Made → Type 0
   MakePromise entry used =
-      StepPromise (making (before journal) (before image) (table (before forward) used) entry (length (before text) - at)) (table (before forward) used)
+      StepPromise (making (before journal) (before image) (table (before_mut forward) used) entry (length (before_mut text) - at)) (table (before_mut forward) used)

@@ -3,6 +3,8 @@
 // Every function here is proved. They are helpers of our own crates: they ask for tests that have passed and for an index that is
 // the table's, and keep both. Heads of length 0 are no index. The way is lent for the slots that a path goes by; what it holds before
 // is of no account.
+#![tactic(auto)]
+
 ghost use Rattle.std.specs.Prelude.{◌≤◌, ◌<◌};
 ghost use Rattle.entry_slots.specs.Slots.{slots_in};
 ghost use Rattle.entry_slots.specs.Table.{table};

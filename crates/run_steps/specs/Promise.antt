@@ -1,6 +1,6 @@
 -- What a run of steps, and each step of it, asks and promises, of what the lent slices hold before, and, with ', after.
 use Rattle.std.specs.Prelude.{ℕ, ◌-◌, ◌<◌, ◌≤◌, ◌≡◌, List, length}
-use Rattle.base.specs.Lent.{Lent, before, after}
+use Rattle.base.specs.Lent.{Lent, MutLent, before, before_mut, after}
 use Rattle.base.specs.Lists.{overwrite}
 use Rattle.entry_slots.specs.Slots.{slots_in}
 use Rattle.entry_slots.specs.Index.{heads_of, nexts_of, Indexed}
@@ -21,10 +21,10 @@ pub record RunAsks (journal image records words : List ℕ) (rewind : Rewind) (h
   pub wide : 0 < length heads → slots_in words ≤ length nexts
 
 -- the next step of a run
-abbrev pub RunStepPromise : Lent → Lent → Lent → Lent → Lent → Lent → Lent → Lent → Standing → Made → Type 0
+abbrev pub RunStepPromise : Lent → Lent → MutLent → MutLent → MutLent → MutLent → MutLent → Lent → Standing → Made → Type 0
 RunStepPromise journal image forward heads nexts way text records standing =
-    let o = stepped_with_text (before journal) (before image) (before records) (before forward) standing.rewind (length (before text) - standing.at) in
-    StepPromise journal image forward heads nexts way text standing.at o (forward_table (before forward) standing.rewind)
+    let o = stepped_with_text (before journal) (before image) (before records) (before_mut forward) standing.rewind (length (before_mut text) - standing.at) in
+    StepPromise journal image forward heads nexts way text standing.at o (forward_table (before_mut forward) standing.rewind)
 
 -- many steps: their run, and what is left of it where the tests have passed
 module _ (journal image records words : List ℕ) (rewind : Rewind) (heads nexts ends text : List ℕ) where
@@ -39,6 +39,6 @@ module _ (journal image records words : List ℕ) (rewind : Rewind) (heads nexts
     pub ends-are : ends' ≡ overwrite ends run_made.ends
     pub text-is : text' ≡ overwrite text run_made.text
 
-abbrev pub StepsPromise : Lent → Lent → Lent → Rewind → Lent → Lent → Lent → Lent → Lent → RewindRun → Type 0
+abbrev pub StepsPromise : Lent → Lent → Lent → Rewind → MutLent → MutLent → MutLent → MutLent → MutLent → RewindRun → Type 0
 StepsPromise journal image records rewind forward heads nexts ends text r =
-    RunLeaves (before journal) (before image) (before records) (before forward) rewind (before heads) (before nexts) (before ends) (before text) r (after forward) (after heads) (after nexts) (after ends) (after text)
+    RunLeaves (before journal) (before image) (before records) (before_mut forward) rewind (before_mut heads) (before_mut nexts) (before_mut ends) (before_mut text) r (after forward) (after heads) (after nexts) (after ends) (after text)

@@ -2,6 +2,8 @@
 //
 // Every function here is proved. They are helpers of our own crates: they ask for tests that have passed and for an index that is
 // the table's, and keep both. Heads of length 0 are no index.
+#![tactic(auto)]
+
 ghost use Rattle.std.specs.Prelude.{◌≤◌, ◌<◌, length};
 ghost use Rattle.chain.specs.Settings.{levels};
 ghost use Rattle.run_steps.specs.Promise.{RunStepPromise, RunAsks, StepsPromise};

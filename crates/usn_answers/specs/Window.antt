@@ -1,6 +1,6 @@
 -- The window over a journal as words, and what a reading of it says.
 use Rattle.std.specs.Prelude.{ℕ, List, [], ◌∷◌, cond, not, get_or, eqb}
-use Rattle.base.specs.Lent.{Lent}
+use Rattle.base.specs.Lent.{MutLent}
 use Rattle.base.specs.Outcome.{Outcome, refused, answered}
 use Rattle.base.specs.Words.{ListPromise}
 use Rattle.usn_record.specs.Record.{record_words}
@@ -50,5 +50,5 @@ abbrev pub reading_outcome : Reading → Outcome Reading
 reading_outcome x = outcome_by x.answer x
 
 -- what a reading leaves: its list is the words of the window
-abbrev pub ReadingPromise : Outcome Reading → Lent → Lent → ℕ → Type 0
+abbrev pub ReadingPromise : Outcome Reading → MutLent → MutLent → ℕ → Type 0
 ReadingPromise o reader out r = ListPromise window_words reading_words o reader out r

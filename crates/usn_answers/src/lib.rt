@@ -4,6 +4,8 @@
 // a refusal writes none. A module each: a parsed record, a scan's count, carving's counters, and the window with its readings.
 //
 // Every function here is proved. The public ones are helpers of our own crates, and ask for lists that are long enough.
+#![tactic(auto)]
+
 pub mod carver;
 pub mod record_words;
 pub mod scan;

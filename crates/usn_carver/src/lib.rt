@@ -1,6 +1,8 @@
 // Carving of USN records, versions 2 and 3, from raw bytes such as unallocated space.
 //
 // Every function here is proved. The call has no `requires`: any extract and any list get an answer.
+#![tactic(auto)]
+
 mod fill;
 mod step;
 mod time;

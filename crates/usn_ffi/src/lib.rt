@@ -11,6 +11,8 @@
 // Every function here is proved, and none has a `requires`. A refused call writes nothing, and one that answers writes the words
 // of its answer alone: those past them stay as they were. Too few words for the answer are refused with 5 directly behind 1, before
 // everything else; too few words of a window, which a call has to read, before 1 too.
+#![tactic(auto)]
+
 ghost use Rattle.usn_record.specs.Layout.{v2, v3};
 ghost use Rattle.usn_ffi.specs.Promise.{ParsePromise, ListedPromise, ScanPromise, CarvePromise, NewPromise, NextPromise, GivePromise};
 

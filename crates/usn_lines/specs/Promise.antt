@@ -2,7 +2,7 @@
 -- takes the call's parameters.
 use Rattle.std.specs.Prelude.{ℕ, ◌*◌, ◌≤◌, ◌≡◌, List, [], length, take}
 use Rattle.std.proofs.lemmas.List.Edits.{sets}
-use Rattle.base.specs.Lent.{Lent, before, after}
+use Rattle.base.specs.Lent.{Lent, MutLent, before, before_mut, after}
 use Rattle.base.specs.Lists.{overwrite}
 use Rattle.usn_scan.specs.Scan.{scanned}
 use Rattle.base.specs.Outcome.{Outcome, refused, answered}
@@ -35,9 +35,9 @@ pub record Passes (s : Standing) (r : Rewind) (words' : List ℕ) : Type 0 where
   pub state : r ≡ s.rewind
   pub forward : words' ≡ s.words
 
-abbrev pub PassPromise : Lent → Lent → Rewind → Lent → Rewind → Type 0
+abbrev pub PassPromise : Lent → Lent → Rewind → MutLent → Rewind → Type 0
 PassPromise journal records rewind forward r =
-    Passes (onward (before journal) (before records) (standing (before forward) rewind)) r (after forward)
+    Passes (onward (before journal) (before records) (standing (before_mut forward) rewind)) r (after forward)
 
 -- the run that a call answers, or one of no steps where it is refused
 abbrev pub run_or : Rewind → Outcome RewindRun → RewindRun
@@ -63,40 +63,40 @@ pub record StepsWithText (journal words : List ℕ) (q : Rewind) (text : List �
   pub forward : words' ≡ words_after o words
   pub written : text' ≡ overwrite text (text_of_step journal o)
 
-abbrev pub TextStepPromise : Lent → Lent → Rewind → Lent → Lent → TextStep → Type 0
+abbrev pub TextStepPromise : Lent → Lent → Rewind → MutLent → MutLent → TextStep → Type 0
 TextStepPromise journal records rewind forward text r =
-    let o = stepped_with_text (before journal) [] (before records) (before forward) rewind (length (before text)) in
-    StepsWithText (before journal) (before forward) rewind (before text) o r (after forward) (after text)
+    let o = stepped_with_text (before journal) [] (before records) (before_mut forward) rewind (length (before_mut text)) in
+    StepsWithText (before journal) (before_mut forward) rewind (before_mut text) o r (after forward) (after text)
 
 -- the next record's path, in at most so many bytes
-abbrev pub WithinPromise : Lent → Lent → Rewind → Lent → Lent → ℕ → Put → Type 0
+abbrev pub WithinPromise : Lent → Lent → Rewind → MutLent → MutLent → ℕ → Put → Type 0
 WithinPromise journal records rewind forward text most r =
-    let o = stepped_with_text (before journal) [] (before records) (before forward) rewind most in
-    let s = onward (before journal) (before records) (standing (before forward) rewind) in
-    Puts (before text) (shown_path (before journal) o) most s r (after forward) (after text)
+    let o = stepped_with_text (before journal) [] (before records) (before_mut forward) rewind most in
+    let s = onward (before journal) (before records) (standing (before_mut forward) rewind) in
+    Puts (before_mut text) (shown_path (before journal) o) most s r (after forward) (after text)
 
 -- the next record's path
-abbrev pub PathPromise : Lent → Lent → Rewind → Lent → Lent → Put → Type 0
+abbrev pub PathPromise : Lent → Lent → Rewind → MutLent → MutLent → Put → Type 0
 PathPromise journal records rewind forward text r =
-    let s = standing (before forward) rewind in
-    Puts (before text) (path_of (before journal) (before records) s) most_path (onward (before journal) (before records) s) r (after forward) (after text)
+    let s = standing (before_mut forward) rewind in
+    Puts (before_mut text) (path_of (before journal) (before records) s) most_path (onward (before journal) (before records) s) r (after forward) (after text)
 
 -- its line
-abbrev pub LinePromise : Lent → Lent → ℕ → Rewind → Lent → Lent → Put → Type 0
+abbrev pub LinePromise : Lent → Lent → ℕ → Rewind → MutLent → MutLent → Put → Type 0
 LinePromise journal records number rewind forward text r =
-    let s = standing (before forward) rewind in
-    Puts (before text) (line (before journal) (before records) number s) most_part (onward (before journal) (before records) s) r (after forward) (after text)
+    let s = standing (before_mut forward) rewind in
+    Puts (before_mut text) (line (before journal) (before records) number s) most_part (onward (before journal) (before records) s) r (after forward) (after text)
 
 -- a part of the listing of the first so many records of a list
-abbrev pub PartPromise : Lent → Lent → ℕ → ℕ → Rewind → Lent → Lent → Put → Type 0
+abbrev pub PartPromise : Lent → Lent → ℕ → ℕ → Rewind → MutLent → MutLent → Put → Type 0
 PartPromise journal list count number rewind forward text r =
-    let s = standing (before forward) rewind in
+    let s = standing (before_mut forward) rewind in
     let records = take (2 * count) (before list) in
-    Puts (before text) (part (before journal) records number s) most_part (after_part (before journal) records number s) r (after forward) (after text)
+    Puts (before_mut text) (part (before journal) records number s) most_part (after_part (before journal) records number s) r (after forward) (after text)
 
 -- the start of the rewind
-abbrev pub StartPromise : Lent → Lent → Lent → Lent → Rewind → Type 0
-StartPromise journal records first forward r = Passes (begins (before journal) (before records) (before first) (before forward)) r (after forward)
+abbrev pub StartPromise : Lent → Lent → MutLent → MutLent → Rewind → Type 0
+StartPromise journal records first forward r = Passes (begins (before journal) (before records) (before_mut first) (before_mut forward)) r (after forward)
 
 -- where a listing begins: how many records there are, the list of them, and the start of their rewind
 pub record Begins (journal words₀ words : List ℕ) (r : Begun) (list' words' : List ℕ) : Type 0 where
@@ -106,5 +106,5 @@ pub record Begins (journal words₀ words : List ℕ) (r : Begun) (list' words' 
   pub state : r.rewind ≡ (begins journal (list_of journal) words₀ words).rewind
   pub forward : words' ≡ (begins journal (list_of journal) words₀ words).words
 
-abbrev pub BeginPromise : Lent → Lent → Lent → Lent → Begun → Type 0
-BeginPromise journal list first forward r = Begins (before journal) (before first) (before forward) r (after list) (after forward)
+abbrev pub BeginPromise : Lent → MutLent → MutLent → MutLent → Begun → Type 0
+BeginPromise journal list first forward r = Begins (before journal) (before_mut first) (before_mut forward) r (after list) (after forward)

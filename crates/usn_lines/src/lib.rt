@@ -6,6 +6,8 @@
 // of them to the front of a lent text. All parts, one behind the other, are the listing (`parts-make-listing`).
 //
 // Every function here is proved, with the text that it writes.
+#![tactic(auto)]
+
 mod next_path;
 
 ghost use Rattle.std.specs.Prelude.{◌*◌, ◌≤◌, ◌<◌, ◌≡◌, length};

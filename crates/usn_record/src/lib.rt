@@ -1,6 +1,8 @@
 // One USN record, version 2 or 3: the parsers, and the record that stands at an offset of an extract.
 //
 // Every function here is proved. No call has a `requires`: any slice gets an answer, a record or a refusal by its number.
+#![tactic(auto)]
+
 pub mod bytes;
 pub mod fields;
 pub mod layout;

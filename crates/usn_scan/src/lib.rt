@@ -1,6 +1,8 @@
 // The scan of a change journal extract for its records.
 //
 // Every function here is proved. The call has no `requires`: any extract and any list get an answer.
+#![tactic(auto)]
+
 mod records;
 mod step;
 

@@ -6,6 +6,8 @@
 // However the bytes of a journal are delivered, one or more of the wanted ones at a time, no call is refused, the end is reached within
 // 4 calls a byte and 17 more, not counting those that ask again before all bytes are given, and the records are the same, with the
 // bytes of their names in the buffer (proofs/FullReads.antt).
+#![tactic(auto)]
+
 mod turn;
 mod window;
 

@@ -1,15 +1,15 @@
 -- What the program promises where it says that all is written: the forward table is the one after every part of the listing.
 use Rattle.std.specs.Prelude.{ℕ, ◌*◌, ◌≡◌, Bool, true, take}
-use Rattle.base.specs.Lent.{Lent, before, after}
+use Rattle.base.specs.Lent.{Lent, MutLent, before, before_mut, after}
 use Rattle.rewind.specs.declared.Rewind.{Rewind}
 use Rattle.usn_lines.specs.Listing.{standing, after_all, list_of, begins}
 
 -- the loop over the parts of the first so many records of a list
-abbrev pub WritePromise : Lent → Lent → ℕ → Rewind → Lent → Bool → Type 0
+abbrev pub WritePromise : Lent → Lent → ℕ → Rewind → MutLent → Bool → Type 0
 WritePromise journal list count start forward r =
-    r ≡ true → after forward ≡ (after_all (before journal) (take (2 * count) (before list)) (standing (before forward) start)).words
+    r ≡ true → after forward ≡ (after_all (before journal) (take (2 * count) (before list)) (standing (before_mut forward) start)).words
 
 -- the listing of a journal: all records that the scan lists, from the start of their rewind
-abbrev pub ListPromise : Lent → Lent → Lent → Bool → Type 0
+abbrev pub ListPromise : Lent → MutLent → MutLent → Bool → Type 0
 ListPromise journal first forward r =
-    r ≡ true → after forward ≡ (after_all (before journal) (list_of (before journal)) (begins (before journal) (list_of (before journal)) (before first) (before forward))).words
+    r ≡ true → after forward ≡ (after_all (before journal) (list_of (before journal)) (begins (before journal) (list_of (before journal)) (before_mut first) (before_mut forward))).words

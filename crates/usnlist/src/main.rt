@@ -6,6 +6,8 @@
 //
 // Every function here is proved safe and to end, and `write_listing` to go through every part of the listing unless a write fails. No
 // contract can say which bytes are read and written: tests/usnlist holds that to the Rust original.
+#![tactic(auto)]
+
 ghost use Rattle.std.specs.Prelude.{◌*◌, ◌≤◌, ◌≡◌, length};
 ghost use Rattle.usnlist.specs.Promise.{ListPromise, WritePromise};
 

@@ -1,6 +1,6 @@
 -- What the call promises. The record says it of lists: what the lent slices hold before, and, with ', after. The promise itself takes the call's parameters.
 use Rattle.std.specs.Prelude.{ℕ, ◌≡◌, List, length}
-use Rattle.base.specs.Lent.{Lent, before, after}
+use Rattle.base.specs.Lent.{Lent, MutLent, before, before_mut, after}
 use Rattle.utf16.specs.Decoding.{outcome, decoding, text_after}
 use Rattle.utf16.specs.declared.Decoded.{Decoded}
 
@@ -9,5 +9,5 @@ pub record Decodes (bytes text : List ℕ) (r : Decoded) (text' : List ℕ) : Ty
   pub answer : outcome r ≡ decoding bytes (length text)
   pub written : text' ≡ text_after bytes text
 
-abbrev pub DecodePromise : Lent → Lent → Decoded → Type 0
-DecodePromise bytes text r = Decodes (before bytes) (before text) r (after text)
+abbrev pub DecodePromise : Lent → MutLent → Decoded → Type 0
+DecodePromise bytes text r = Decodes (before bytes) (before_mut text) r (after text)

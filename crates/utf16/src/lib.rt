@@ -2,6 +2,8 @@
 //
 // Every function here is proved. The call has no `requires`: any bytes and any text get an answer. The modules' public writers ask
 // for room and answer the index after what they wrote: they are helpers of our own crates and not offered as calls.
+#![tactic(auto)]
+
 mod ascii;
 mod code_point;
 pub mod decimal;

@@ -10,6 +10,8 @@
 // Every function here is proved, and none has a `requires`. A refused call writes nothing. One that answers writes of its list the words
 // of its answer alone: those past them stay as they were. Too few words for the answer are refused with 5 directly behind 1, before
 // everything else.
+#![tactic(auto)]
+
 ghost use Rattle.path_text.specs.Decoding.{place};
 ghost use Rattle.volume_answers.specs.Key.{key_of};
 ghost use Rattle.volume_ffi.specs.Promise.{CarveCallPromise, DecodeCallPromise, PlaceCallPromise, ChainCallPromise, ResolvePromise};

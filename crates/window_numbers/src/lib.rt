@@ -1,6 +1,8 @@
 // The numbers of a window over a journal: where it ends, and which numbers cannot be a window's.
 //
 // Every function here is proved. No function has a `requires`: any numbers get an answer.
+#![tactic(auto)]
+
 ghost use Rattle.std.specs.Prelude.{◌≡◌};
 ghost use Rattle.window_numbers.specs.Numbers.{window_end, wrong_end, numbers_of, numbers_refusal};
 

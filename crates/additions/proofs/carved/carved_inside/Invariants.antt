@@ -1,0 +1,15 @@
+-- The invariant: the names passed are inside.
+use Prim.Native.Nat.{◌-◌}
+use native.Mathlib.Omega.{arith}
+use borrow.Author.Tests.{not-true, not-false}
+use Rattle.entry_slots.specs.Names.{lengths, inside}
+use Rattle.additions.specs.Carved.{carved_name}
+use Rattle.entry_slots.proofs.NameLaws.{Passing, passing-start, passing-row, passing-outside, passing-end}
+use Rattle.additions.proofs.CarverLaws.{carved-names}
+use Rattle.additions.proofs.carved.carved_inside.Given as goal
+
+abbrev pub invariant-loop-i : goal.invariant-loop-i
+invariant-loop-i l = Passing (inside (lengths l.journal_length l.image_length)) (carved_name l.entries) l.i l.count
+
+abbrev pub decreases-loop-i : goal.decreases-loop-i
+decreases-loop-i l = l.count - l.i

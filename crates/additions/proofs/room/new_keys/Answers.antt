@@ -1,0 +1,35 @@
+use Prim.Native.Nat.{◌-◌}
+use native.Mathlib.Omega.{arith}
+use borrow.Author.Tests.{not-true, not-false}
+use mathlib.Core.Logic.{⊎_elim}
+use Rattle.entry_slots.specs.Table.{table}
+use Rattle.additions.specs.Sources.{source_at}
+use Rattle.additions.proofs.AdditionLaws.{Counting, counting-start, counting-new, counting-known, counting-end}
+use Rattle.additions.proofs.room.new_keys.Goals as goal
+
+pub overflow_add-count : goal.overflow_add-count
+overflow_add-count c = omega arith
+
+pub loop-i-init : goal.loop-i-init
+loop-i-init c = counting-start _ _ _
+
+pub source_key-requires : goal.source_key-requires
+source_key-requires c = omega arith
+
+pub is_seen-requires : goal.is_seen-requires
+is_seen-requires c = (omega arith, omega arith)
+
+pub overflow_add-n : goal.overflow_add-n
+overflow_add-n c = omega arith
+
+pub overflow_add-i : goal.overflow_add-i
+overflow_add-i c = omega arith
+
+pub loop-i-smaller : goal.loop-i-smaller
+loop-i-smaller c = omega arith
+
+pub loop-i-preserved : goal.loop-i-preserved
+loop-i-preserved c = ⊎_elim (λ w. counting-new c.loop-i.invariant c.loop-i-test.true c.source_key.ensures c.is_seen.ensures (not-true _ w.0.taken) w.1) (λ w. counting-known c.loop-i.invariant c.loop-i-test.true c.source_key.ensures c.is_seen.ensures (not-false _ w.0.left) w.1) c.if-not-is_seen.branch
+
+pub returns : goal.returns
+returns c = counting-end c.loop-i.invariant c.loop-i-test.false

@@ -1,0 +1,17 @@
+-- The way from all levels on, and what it hangs under.
+use mathlib.Core.Path.{ap, ◌∙◌, sym}
+use native.Mathlib.Omega.{arith}
+use borrow.Author.Rules.{rules}
+use Rattle.entry_slots.specs.Table.{table}
+use Rattle.chain.specs.Way.{end_under}
+use Rattle.chain.proofs.WayLaws.{risen, risen-below, below-slots, end_is}
+use Rattle.chain.proofs.way.climb.Goals as goal
+
+pub rise-names-requires : goal.rise-names-requires
+rise-names-requires c = (c.requires.0, (c.requires.1.0, record { near = omega arith; room = c.requires.1.1; sum = omega arith; reached = λ h. absurd (omega arith) }))
+
+pub top_key-requires : goal.top_key-requires
+top_key-requires c = below-slots c.requires.0.0 (risen-below (table c.args.slots.now c.args.used) c.args.key c.args.way.now c.rise-names.ensures)
+
+pub returns : goal.returns
+returns c = risen (table c.args.slots.now c.args.used) c.args.key c.args.way.now c.rise-names.ensures c.rise-names.auto.1.1.1.1.1.1.0 (end_is c.args.slots.now _ c.rise-names.result c.args.key c.end_under-end.ensures c.top_key.ensures)

@@ -1,0 +1,12 @@
+-- The invariant: the words before i are 0.
+use Prim.Native.Nat.{◌-◌}
+use native.Mathlib.Omega.{arith}
+use lib.ListN.{length}
+use Rattle.entry_slots.proofs.IndexLaws.{Cleared, cleared-start, cleared_more, cleared-all}
+use Rattle.entry_slots.proofs.links.clear.Given as goal
+
+abbrev pub invariant-loop-i : goal.invariant-loop-i
+invariant-loop-i l = Cleared l.initial.words l.words l.i
+
+abbrev pub decreases-loop-i : goal.decreases-loop-i
+decreases-loop-i l = length l.initial.words - l.i

@@ -1,0 +1,16 @@
+-- By whether there are heads.
+use native.Mathlib.Omega.{arith}
+use Rattle.entry_slots.proofs.ProbeLaws.{found-hit, found_none}
+use borrow.Author.Rules.{rules}
+use Rattle.entry_slots.proofs.links.seek.Goals as goal
+
+pub probe_key-requires : goal.probe_key-requires
+probe_key-requires c =
+    let s = c in
+    ((s.requires.0.0, omega (arith, c.if-heads-gt0.true), s.requires.0.1 (omega (arith, c.if-heads-gt0.true))), s.requires.1)
+
+pub returns-in-At : goal.returns-in-At
+returns-in-At c = found-hit _ _ _ c.find.ensures c.in-At.is
+
+pub returns-in-Nothing : goal.returns-in-Nothing
+returns-in-Nothing c = found_none _ _ _ (omega (arith, c.if-heads-gt0.false)) c.find.ensures c.in-Nothing.is

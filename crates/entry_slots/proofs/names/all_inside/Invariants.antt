@@ -1,0 +1,14 @@
+-- The invariant: the names passed are inside.
+use Prim.Native.Nat.{◌-◌}
+use native.Mathlib.Omega.{arith}
+use borrow.Author.Tests.{not-true, not-false}
+use Rattle.entry_slots.specs.Names.{lengths, inside}
+use Rattle.entry_slots.specs.Slots.{slot_name}
+use Rattle.entry_slots.proofs.NameLaws.{Passing, passing-start, passing-row, passing-outside, passing-end}
+use Rattle.entry_slots.proofs.names.all_inside.Given as goal
+
+abbrev pub invariant-loop-i : goal.invariant-loop-i
+invariant-loop-i l = Passing (inside (lengths l.journal_length l.image_length)) (slot_name l.slots) l.i l.used
+
+abbrev pub decreases-loop-i : goal.decreases-loop-i
+decreases-loop-i l = l.used - l.i

@@ -1,0 +1,9 @@
+-- No words are an index.
+use mathlib.Core.List.{[]}
+use native.Mathlib.Omega.{arith}
+use Rattle.entry_slots.proofs.IndexLaws.{none-indexed}
+use borrow.Author.Rules.{rules}
+use Rattle.entry_table.proofs.adding.add.Goals as goal
+
+pub add_by-requires : goal.add_by-requires
+add_by-requires c = let s = c in (s.requires, ((none-indexed s.args.slots.now [] [] s.args.used (omega (arith, s.requires)) (omega arith)).1, λ h. absurd (omega arith)))

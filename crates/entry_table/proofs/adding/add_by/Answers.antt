@@ -1,0 +1,7 @@
+-- The key is sought, and then the entry is stored.
+use native.Mathlib.Omega.{arith}
+use borrow.Author.Rules.{rules}
+use Rattle.entry_table.proofs.adding.add_by.Goals as goal
+
+pub seek-found-requires : goal.seek-found-requires
+seek-found-requires c = let s = c in ((omega (arith, s.requires.0), λ h. let g = s.requires.1.1 h in omega (arith, s.requires.0)), s.requires.1.0)

@@ -1,0 +1,6 @@
+-- Seeding with no words for an index.
+use borrow.Author.Rules.{rules}
+use Rattle.entry_table.proofs.seed.Goals as goal
+
+pub returns : goal.returns
+returns c = c.seed_indexed.ensures.store

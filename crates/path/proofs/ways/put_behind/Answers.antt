@@ -1,0 +1,24 @@
+-- By whether the entry's path has room: the parent's path first, and then the own name.
+use native.Mathlib.Omega.{arith}
+use borrow.Author.Rules.{rules}
+use borrow.Author.Tests.{not-true, not-false}
+use lib.ListN.{length}
+use Rattle.chain.specs.Way.{chain_by}
+use Rattle.path_text.specs.Text.{path_text, step_text}
+use Rattle.path_text.proofs.MarkerLaws.{first-room, second-room, both-put}
+use Rattle.path.specs.Ways.{entry_text}
+use Rattle.path.proofs.BoundLaws.{entry-parts}
+use Rattle.path.proofs.WayLaws.{behind-full, behind-room, behind-put}
+use Rattle.path.proofs.ways.put_behind.Goals as goal
+
+pub returns-then-not-entry_fits : goal.returns-then-not-entry_fits
+returns-then-not-entry_fits c = behind-full (entry_text c.args.journal.now c.args.image.now (chain_by c.args.slots.now c.args.way.now c.args.up) c.args.name) c.args.text.now c.args.at c.entry_fits.ensures (not-true _ c.if-not-entry_fits.true)
+
+pub put_way-above-requires : goal.put_way-above-requires
+put_way-above-requires c = (c.requires.0, first-room c.args.text.now c.args.at (path_text c.args.journal.now c.args.image.now (chain_by c.args.slots.now c.args.way.now c.args.up)) (step_text c.args.journal.now c.args.image.now c.args.name) (entry-parts c.args.journal.now c.args.image.now (chain_by c.args.slots.now c.args.way.now c.args.up) c.args.name) (behind-room (entry_text c.args.journal.now c.args.image.now (chain_by c.args.slots.now c.args.way.now c.args.up) c.args.name) c.args.text.now c.args.at c.entry_fits.ensures (not-false _ c.if-not-entry_fits.false) c.requires.1.1))
+
+pub put_step-requires : goal.put_step-requires
+put_step-requires c = (c.requires.1.0, second-room c.args.text.now c.args.at (path_text c.args.journal.now c.args.image.now (chain_by c.args.slots.now c.args.way.now c.args.up)) (step_text c.args.journal.now c.args.image.now c.args.name) (entry-parts c.args.journal.now c.args.image.now (chain_by c.args.slots.now c.args.way.now c.args.up) c.args.name) c.put_way-above.ensures (behind-room (entry_text c.args.journal.now c.args.image.now (chain_by c.args.slots.now c.args.way.now c.args.up) c.args.name) c.args.text.now c.args.at c.entry_fits.ensures (not-false _ c.if-not-entry_fits.false) c.requires.1.1))
+
+pub returns : goal.returns
+returns c = behind-put (entry_text c.args.journal.now c.args.image.now (chain_by c.args.slots.now c.args.way.now c.args.up) c.args.name) c.args.text.now c.args.at c.entry_fits.ensures (not-false _ c.if-not-entry_fits.false) (both-put c.args.text.now c.args.at (path_text c.args.journal.now c.args.image.now (chain_by c.args.slots.now c.args.way.now c.args.up)) (step_text c.args.journal.now c.args.image.now c.args.name) (entry-parts c.args.journal.now c.args.image.now (chain_by c.args.slots.now c.args.way.now c.args.up) c.args.name) c.put_way-above.ensures c.put_step.ensures)

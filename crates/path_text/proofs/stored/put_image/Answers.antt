@@ -1,0 +1,16 @@
+-- By whether the name is read from a restored entry.
+use mathlib.Core.Path.{ap}
+use native.Mathlib.Omega.{arith}
+use borrow.Author.Rules.{rules}
+use lib.ListN.{length}
+use Rattle.utf16.proofs.PutLaws.{put_as}
+use Rattle.path_text.proofs.stored.put_image.Goals as goal
+
+pub put_from_entry-requires : goal.put_from_entry-requires
+put_from_entry-requires c = (c.is_restored.ensures.yes c.if-is_restored.true, c.requires.1)
+
+pub put_name-requires : goal.put_name-requires
+put_name-requires c = (c.requires.0, omega (arith, c.requires.1, ap length (c.is_restored.ensures.no c.if-is_restored.false)))
+
+pub returns : goal.returns
+returns c = put_as c.args.text.now c.args.at (c.is_restored.ensures.no c.if-is_restored.false) c.put_name.ensures

@@ -1,0 +1,21 @@
+-- A backslash, and then the name.
+use mathlib.Core.List.{[], ◌∷◌}
+use native.Mathlib.Omega.{arith}
+use borrow.Author.Rules.{rules}
+use Rattle.path_text.specs.Text.{place_text}
+use Rattle.path_text.proofs.MarkerLaws.{second-room, both-put}
+use Rattle.path_text.proofs.NameLaws.{step-parts, step-long}
+use Rattle.path_text.proofs.text.put_step.Goals as goal
+
+pub put_byte-to-requires : goal.put_byte-to-requires
+put_byte-to-requires c = omega (arith, c.requires.1, step-long c.args.journal.now c.args.image.now c.args.place)
+
+pub put_place-requires : goal.put_place-requires
+put_place-requires c = (
+  c.requires.0,
+  second-room c.args.text.now c.args.at (0x5C ∷ []) (place_text c.args.journal.now c.args.image.now c.args.place) (step-parts c.args.journal.now c.args.image.now c.args.place) c.put_byte-to.ensures c.requires.1,
+)
+
+pub returns : goal.returns
+returns c =
+    both-put c.args.text.now c.args.at (0x5C ∷ []) (place_text c.args.journal.now c.args.image.now c.args.place) (step-parts c.args.journal.now c.args.image.now c.args.place) c.put_byte-to.ensures c.put_place.ensures

@@ -1,0 +1,18 @@
+-- Each way out by its tests.
+use borrow.Author.Rules.{rules}
+use mathlib.Core.Path.{sym, ◌∙◌}
+use borrow.Author.Tests.{leb-true, leb-false}
+use Rattle.usn_carver.proofs.CallLaws.{refuses-above-domain, refuses-full, carves}
+use Rattle.usn_carver.proofs.carve.Goals as goal
+
+pub returns-then-extract-gt-DOMAIN : goal.returns-then-extract-gt-DOMAIN
+returns-then-extract-gt-DOMAIN c = refuses-above-domain _ _ _ c.if-extract-gt-DOMAIN.true
+
+pub fill_list-requires : goal.fill_list-requires
+fill_list-requires c = leb-true _ _ (sym c.has_room.ensures ∙ c.if-has_room.true)
+
+pub returns-then-has_room : goal.returns-then-has_room
+returns-then-has_room c = carves _ _ _ c.if-extract-gt-DOMAIN.false (leb-true _ _ (sym c.has_room.ensures ∙ c.if-has_room.true)) c.fill_list.ensures
+
+pub returns-else-has_room : goal.returns-else-has_room
+returns-else-has_room c = refuses-full _ _ _ c.if-extract-gt-DOMAIN.false (leb-false _ _ (sym c.has_room.ensures ∙ c.if-has_room.false))

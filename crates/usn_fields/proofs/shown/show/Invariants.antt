@@ -1,0 +1,15 @@
+-- The text so far is the text with its first bytes shown.
+use Prim.Native.Nat.{◌-◌, ◌≤◌}
+use mathlib.Core.Path.{◌≡◌, ap, ◌∙◌}
+use native.Mathlib.Omega.{arith}
+use borrow.Author.Rules.{rules}
+use lib.ListN.{length}
+use Rattle.usn_fields.specs.Line.{shown_to}
+use Rattle.usn_fields.proofs.ShownLaws.{shown-none, shown-length, shown-next, shown-all}
+use Rattle.usn_fields.proofs.shown.show.Given as goal
+
+abbrev pub invariant-loop-i : goal.invariant-loop-i
+invariant-loop-i l = (l.text ≡ shown_to l.i l.initial.text) × (l.i ≤ l.n)
+
+abbrev pub decreases-loop-i : goal.decreases-loop-i
+decreases-loop-i l = l.n - l.i

@@ -1,0 +1,17 @@
+-- Each way out rewrites with the tests that led there.
+use borrow.Author.Rules.{rules}
+use borrow.Author.Tests.{lt-ltb, le-ltb}
+use Rattle.usn_record.specs.Fields.{timestamp_of}
+use Rattle.usn_record.proofs.fields.filetime_to_timestamp.Goals as goal
+
+pub returns-then-bits-ge9223372036854775808 : goal.returns-then-bits-ge9223372036854775808
+unfolding timestamp_of
+returns-then-bits-ge9223372036854775808 c = simp (le-ltb _ _ c.if-bits-ge9223372036854775808.true)
+
+pub returns-then-bits-lt-EPOCH_DIFF : goal.returns-then-bits-lt-EPOCH_DIFF
+unfolding timestamp_of
+returns-then-bits-lt-EPOCH_DIFF c = simp (lt-ltb _ _ c.if-bits-ge9223372036854775808.false, lt-ltb _ _ c.if-bits-lt-EPOCH_DIFF.true)
+
+pub returns : goal.returns
+unfolding timestamp_of
+returns c = simp (lt-ltb _ _ c.if-bits-ge9223372036854775808.false, le-ltb _ _ c.if-bits-lt-EPOCH_DIFF.false)

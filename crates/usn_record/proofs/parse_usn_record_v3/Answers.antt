@@ -1,0 +1,6 @@
+-- The layout's numbers are those of the version.
+use borrow.Author.Rules.{rules}
+use Rattle.usn_record.proofs.parse_usn_record_v3.Goals as goal
+
+pub returns : goal.returns
+returns c = c.parse.ensures

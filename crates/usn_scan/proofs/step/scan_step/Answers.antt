@@ -1,0 +1,23 @@
+-- Each way out by the tests that led to it; the last is the version's.
+use borrow.Author.Rules.{rules}
+use native.Mathlib.Omega.{arith}
+use Rattle.usn_scan.proofs.StepLaws.{visit-no-header, visit-short, visit-long, visit-past-end, visit-inside}
+use Rattle.usn_scan.proofs.step.scan_step.Goals as goal
+
+pub returns-then-size-lt8 : goal.returns-then-size-lt8
+returns-then-size-lt8 c = visit-no-header _ _ (omega arith)
+
+pub returns-then-size-o : goal.returns-then-size-o
+returns-then-size-o c = visit-no-header _ _ (omega arith)
+
+pub returns-then-n-lt-USN_V4_MIN_SIZE : goal.returns-then-n-lt-USN_V4_MIN_SIZE
+returns-then-n-lt-USN_V4_MIN_SIZE c = visit-short _ _ (omega arith) c.le_u32-n.ensures (omega arith)
+
+pub returns-then-n-gt-USN_MAX_RECORD_SIZE : goal.returns-then-n-gt-USN_MAX_RECORD_SIZE
+returns-then-n-gt-USN_MAX_RECORD_SIZE c = visit-long _ _ (omega arith) c.le_u32-n.ensures (omega arith)
+
+pub returns-then-size-o-2 : goal.returns-then-size-o-2
+returns-then-size-o-2 c = visit-past-end _ _ (omega arith) c.le_u32-n.ensures (omega arith) (omega arith) (omega arith)
+
+pub returns : goal.returns
+returns c = visit-inside _ _ (omega arith) c.le_u32-n.ensures (omega arith) (omega arith) (omega arith) c.version_step.ensures

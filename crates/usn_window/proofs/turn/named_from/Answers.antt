@@ -1,0 +1,7 @@
+-- The record with its name's place.
+use borrow.Author.Rules.{rules}
+use Rattle.usn_window.proofs.TurnLaws.{renamed}
+use Rattle.usn_window.proofs.turn.named_from.Goals as goal
+
+pub returns : goal.returns
+returns c = renamed _ _ c.place_from-name.ensures

@@ -1,0 +1,10 @@
+-- Each choice by its test.
+use borrow.Author.Rules.{rules}
+use borrow.Author.Tests.{eq-eqb, ne_eqb}
+use Rattle.usn_window.proofs.turn.place_from.Goals as goal
+
+pub returns-then-p-eq0 : goal.returns-then-p-eq0
+returns-then-p-eq0 c = simp (eq-eqb _ _ c.if-p-eq0.true)
+
+pub returns-else-p-eq0 : goal.returns-else-p-eq0
+returns-else-p-eq0 c = simp (ne_eqb _ _ c.if-p-eq0.false)

@@ -1,0 +1,12 @@
+-- The invariant: what is written, with the text of the units left, is the name's.
+use Prim.Native.Nat.{◌/◌}
+use mathlib.Core.Path.{sym, ◌∙◌}
+use native.Mathlib.Omega.{arith}
+use Rattle.utf16.proofs.NameLaws.{Putting, putting-start, four-room, putting-four, rest-room, rest-length, putting-rest}
+use Rattle.utf16.proofs.name.put_name.Given as goal
+
+abbrev pub invariant-loop-left : goal.invariant-loop-left
+invariant-loop-left l = Putting l.source l.offset (l.size / 2) l.initial.text l.at l.text l.from l.left l.to
+
+abbrev pub decreases-loop-left : goal.decreases-loop-left
+decreases-loop-left l = l.left
