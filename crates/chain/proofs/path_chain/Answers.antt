@@ -12,4 +12,4 @@ pub list_chain-requires : goal.list_chain-requires
 list_chain-requires c = let a = c.args in omega (arith, (chain-traced _ _ _ _ (tests-pass _ _ depth a.key c.refusal-n.ensures c.if-n-ne0.false)).fits)
 
 pub returns : goal.returns
-returns c = chain-listed _ _ _ _ _ (tests-pass _ _ _ _ c.refusal-n.ensures c.if-n-ne0.false) c.list_chain.ensures.0 c.list_chain.ensures.1
+returns c = chain-listed _ _ _ _ _ (tests-pass _ _ _ _ c.refusal-n.ensures c.if-n-ne0.false) c.list_chain.ensures.value c.list_chain.ensures.list_after

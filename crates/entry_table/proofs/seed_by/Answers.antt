@@ -24,9 +24,8 @@ pub build-requires : goal.build-requires
 build-requires c = (omega (arith, c.if-slots-used.false), λ h. let g = c.requires h in omega (arith, c.if-slots-used.false))
 
 pub add_carved-requires : goal.add_carved-requires
-add_carved-requires c =
-    let (heads, nexts) = c.build.ensures in
-    (leb-true _ _ (sym c.carved_fit.ensures ∙ not-false _ c.if-not-carved_fit.false), (index-again _ _ _ heads nexts, λ h. let g = c.requires (omega (arith, heads-long _ _ _ heads nexts)) in omega (arith, nexts-long _ _ _ heads nexts)))
+add_carved-requires c = let (heads, nexts) = c.build.ensures in
+    record { entries_bound = leb-true _ _ (sym c.carved_fit.ensures ∙ not-false _ c.if-not-carved_fit.false); indexed = (index-again _ _ _ heads nexts, λ h. let g = c.requires (omega (arith, heads-long _ _ _ heads nexts)) in omega (arith, nexts-long _ _ _ heads nexts)) }
 
 pub returns : goal.returns
 returns c =

@@ -16,7 +16,7 @@ pub returns-then-n-ne0 : goal.returns-then-n-ne0
 returns-then-n-ne0 c = path-refused _ _ _ _ _ _ (tests-fail _ _ _ _ c.refusal-n.ensures c.if-n-ne0.true)
 
 pub climb-up-requires : goal.climb-up-requires
-climb-up-requires c = let none = none-indexed c.args.slots.now [] [] c.args.used (path-fits c.args.journal.now c.args.image.now (table c.args.slots.now c.args.used) c.args.key c.args.list.now c.args.text.now (tests-pass _ _ depth c.args.key c.refusal-n.ensures c.if-n-ne0.false)) (omega arith) in (none.0, (none.1, omega arith))
+climb-up-requires c = let none = none-indexed c.args.slots.now [] [] c.args.used (path-fits c.args.journal.now c.args.image.now (table c.args.slots.now c.args.used) c.args.key c.args.list.now c.args.text.now (tests-pass _ _ depth c.args.key c.refusal-n.ensures c.if-n-ne0.false)) (omega arith) in record { stride_in_bounds = none.0; indexed = none.1; levels_of_in_bounds = omega arith }
 
 pub put_path-requires : goal.put_path-requires
 put_path-requires c = path-asks c.args.journal.now c.args.image.now (table c.args.slots.now c.args.used) c.args.key c.args.list.now c.args.text.now (tests-pass _ _ depth c.args.key c.refusal-n.ensures c.if-n-ne0.false) c.climb-up.ensures

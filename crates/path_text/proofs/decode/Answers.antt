@@ -22,7 +22,7 @@ pub returns-then-text-place_length : goal.returns-then-text-place_length
 returns-then-text-place_length c = decode-full _ _ _ _ c.if-journal-gt-DOMAIN.false c.if-image-gt-DOMAIN.false (sym c.is_inside.ensures ∙ not-false _ c.if-not-is_inside.false) c.place_length.ensures c.if-text-place_length.true
 
 pub put_place-requires : goal.put_place-requires
-put_place-requires c = (sym c.is_inside.ensures ∙ not-false _ c.if-not-is_inside.false, omega (arith, c.place_length.ensures, c.if-text-place_length.false))
+put_place-requires c = record { place_value = sym c.is_inside.ensures ∙ not-false _ c.if-not-is_inside.false; place_in_bounds = omega (arith, c.place_length.ensures, c.if-text-place_length.false) }
 
 pub returns : goal.returns
 returns c = decode-written _ _ _ _ c.if-journal-gt-DOMAIN.false c.if-image-gt-DOMAIN.false (sym c.is_inside.ensures ∙ not-false _ c.if-not-is_inside.false) c.place_length.ensures c.if-text-place_length.false c.put_place.ensures

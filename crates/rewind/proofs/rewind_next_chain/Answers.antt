@@ -26,4 +26,4 @@ pub returns-in-Refused-add : goal.returns-in-Refused-add
 returns-in-Refused-add c = chain-full _ _ _ _ _ c.next_record.ensures c.in-Entry.is (added-forward refl c.replaces_forward.ensures) c.add.ensures.answer c.add.ensures.slots-are (ap outcome c.in-Refused-add.is) _
 
 pub returns-in-Used : goal.returns-in-Used
-returns-in-Used c = chain-taken _ _ _ _ _ c.next_record.ensures c.in-Entry.is (added-forward refl c.replaces_forward.ensures) c.add.ensures.answer c.add.ensures.slots-are (ap outcome c.in-Used.is) _ c.list_chain-above.ensures.0 c.list_chain-above.ensures.1
+returns-in-Used c = chain-taken _ _ _ _ _ c.next_record.ensures c.in-Entry.is (added-forward refl c.replaces_forward.ensures) c.add.ensures.answer c.add.ensures.slots-are (ap outcome c.in-Used.is) _ c.list_chain-above.ensures.value c.list_chain-above.ensures.list_after

@@ -15,11 +15,11 @@ build-requires c =
 pub run-requires : goal.run-requires
 run-requires c =
     let s = c.args in
-    run-asks s.journal.now s.image.now s.records.now s.forward.now s.rewind s.heads.now s.nexts.now s.ends.now s.text.now c.refusal-refused.ensures c.if-refused-ne0.false c.is_enough.ensures c.if-is_enough.true c.build.ensures.0 c.build.ensures.1
+    run-asks s.journal.now s.image.now s.records.now s.forward.now s.rewind s.heads.now s.nexts.now s.ends.now s.text.now c.refusal-refused.ensures c.if-refused-ne0.false c.is_enough.ensures c.if-is_enough.true c.build.ensures.heads_after c.build.ensures.nexts_after
 
 pub returns-then-is_enough : goal.returns-then-is_enough
 returns-then-is_enough c =
-    run-built _ _ _ _ _ _ _ _ _ c.refusal-refused.ensures c.if-refused-ne0.false c.is_enough.ensures c.if-is_enough.true c.build.ensures.0 c.build.ensures.1 c.run.ensures
+    run-built _ _ _ _ _ _ _ _ _ c.refusal-refused.ensures c.if-refused-ne0.false c.is_enough.ensures c.if-is_enough.true c.build.ensures.heads_after c.build.ensures.nexts_after c.run.ensures
 
 pub run-requires-2 : goal.run-requires-2
 run-requires-2 c =

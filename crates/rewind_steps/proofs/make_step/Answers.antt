@@ -10,13 +10,13 @@ use borrow.Author.Rules.{rules}
 use Rattle.rewind_steps.proofs.make_step.Goals as goal
 
 pub seek-found-requires : goal.seek-found-requires
-seek-found-requires c = ((omega (arith, c.requires.fits), λ h. let g = c.requires.wide h in omega (arith, c.requires.fits)), c.requires.index)
+seek-found-requires c = record { stride_in_bounds = (omega (arith, c.requires.fits), λ h. let g = c.requires.wide h in omega (arith, c.requires.fits)); indexed = c.requires.index }
 
 pub returns-then-forward-slot : goal.returns-then-forward-slot
 returns-then-forward-slot c = let s = c.args in make-none s.journal.now s.image.now (table s.forward.now s.stand.used) s.entry s.text.now s.stand.at s.heads.now s.nexts.now c.requires.fits c.requires.index (c.slot_of-slot.ensures ∙ probed-slot _ _ _ _ c.seek-found.ensures) c.if-forward-slot.true
 
 pub add_found-requires : goal.add_found-requires
-add_found-requires c = (c.requires.fits, ((c.requires.index, c.requires.wide), c.seek-found.ensures))
+add_found-requires c = record { used_bound = c.requires.fits; indexed = (c.requires.index, c.requires.wide); probed = c.seek-found.ensures }
 
 pub tell-requires : goal.tell-requires
 tell-requires c = let s = c.args in make-asks s.journal.now s.image.now (table s.forward.now s.stand.used) s.entry s.text.now s.stand.at s.heads.now s.nexts.now c.requires.fits c.requires.index (added-forward refl c.replaces_forward.ensures) c.add_found.ensures.store.answer c.add_found.ensures.store.slots-are c.add_found.ensures.heads-are c.add_found.ensures.nexts-are (ap outcome c.in-Used.is) c.if-forward-slot.false c.requires

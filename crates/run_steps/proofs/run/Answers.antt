@@ -20,10 +20,9 @@ pub slice_bounds-run_step-end : goal.slice_bounds-run_step-end
 slice_bounds-run_step-end c = sym c.loop-i.invariant.1
 
 pub run_step-requires : goal.run_step-requires
-run_step-requires c =
-    let root = c in
+run_step-requires c = let root = c in
     let s = root.args in
-    (going-asks s.journal.now s.image.now s.records.now s.forward.now s.rewind s.heads.now s.nexts.now s.ends.now s.text.now c.loop-i.invariant.0, (omega (arith, c.loop-i.invariant.1), going-room s.journal.now s.image.now s.records.now s.forward.now s.rewind s.heads.now s.nexts.now s.ends.now s.text.now c.loop-i.invariant.0))
+    record { run_asks = going-asks s.journal.now s.image.now s.records.now s.forward.now s.rewind s.heads.now s.nexts.now s.ends.now s.text.now c.loop-i.invariant.0; levels_in_bounds = (omega (arith, c.loop-i.invariant.1), going-room s.journal.now s.image.now s.records.now s.forward.now s.rewind s.heads.now s.nexts.now s.ends.now s.text.now c.loop-i.invariant.0) }
 
 pub offset_bounds-ends-i : goal.offset_bounds-ends-i
 offset_bounds-ends-i c = omega (arith, c.well_formed)

@@ -9,10 +9,10 @@ pub returns-then-extract-gt-DOMAIN : goal.returns-then-extract-gt-DOMAIN
 returns-then-extract-gt-DOMAIN c = refuses-above-domain _ _ c.if-extract-gt-DOMAIN.true
 
 pub write_records-requires : goal.write_records-requires
-write_records-requires c = (c.if-extract-gt-DOMAIN.false, leb-true _ _ (sym c.has_room.ensures ∙ c.if-has_room.true))
+write_records-requires c = record { extract_len_bound = c.if-extract-gt-DOMAIN.false; extract_in_bounds = leb-true _ _ (sym c.has_room.ensures ∙ c.if-has_room.true) }
 
 pub returns-then-has_room : goal.returns-then-has_room
-returns-then-has_room c = lists _ _ c.if-extract-gt-DOMAIN.false (sym c.has_room.ensures ∙ c.if-has_room.true) c.write_records.ensures.0 c.write_records.ensures.1
+returns-then-has_room c = lists _ _ c.if-extract-gt-DOMAIN.false (sym c.has_room.ensures ∙ c.if-has_room.true) c.write_records.ensures.value c.write_records.ensures.list_after
 
 pub returns-else-has_room : goal.returns-else-has_room
 returns-else-has_room c = refuses-full _ _ c.if-extract-gt-DOMAIN.false (sym c.has_room.ensures ∙ c.if-has_room.false)

@@ -13,4 +13,4 @@ pub list_places-requires : goal.list_places-requires
 list_places-requires c = climbed-slots _ _ c.climb-up.ensures (omega arith)
 
 pub returns : goal.returns
-returns c = (c.resolved.ensures ∙ climbed-resolved _ _ c.climb-up.ensures, c.list_places.ensures ∙ ap (with_places c.args.list.now) (climbed-places _ _ c.climb-up.ensures))
+returns c = record { value = c.resolved.ensures ∙ climbed-resolved _ _ c.climb-up.ensures; list_after = c.list_places.ensures ∙ ap (with_places c.args.list.now) (climbed-places _ _ c.climb-up.ensures) }

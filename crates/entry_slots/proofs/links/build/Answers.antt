@@ -6,7 +6,7 @@ use Rattle.entry_slots.proofs.BuildLaws.{length-zeros, Built, built-none, built-
 use Rattle.entry_slots.proofs.links.build.Goals as goal
 
 pub returns-then-m-eq0 : goal.returns-then-m-eq0
-returns-then-m-eq0 c = (no-heads _ _ _ (omega (arith, c.if-m-eq0.true)) refl, no-nexts _ _ _ (omega (arith, c.if-m-eq0.true)))
+returns-then-m-eq0 c = record { heads_after = no-heads _ _ _ (omega (arith, c.if-m-eq0.true)) refl; nexts_after = no-nexts _ _ _ (omega (arith, c.if-m-eq0.true)) }
 
 pub clear-requires : goal.clear-requires
 clear-requires c = tt

@@ -12,7 +12,7 @@ use borrow.Author.Rules.{rules}
 use Rattle.entry_table.proofs.seeding.add_carved.Goals as goal
 
 pub loop-i-init : goal.loop-i-init
-loop-i-init c = record { made = rows_start _ _ _ c.requires.0; heads-kept = c.requires.1.0.0; nexts-kept = c.requires.1.0.1 }
+loop-i-init c = record { made = rows_start _ _ _ c.requires.entries_bound; heads-kept = c.requires.indexed.0.0; nexts-kept = c.requires.indexed.0.1 }
 
 pub carved_key-key-requires : goal.carved_key-key-requires
 carved_key-key-requires c = omega arith
@@ -21,7 +21,7 @@ pub carved_info-info-requires : goal.carved_info-info-requires
 carved_info-info-requires c = omega arith
 
 pub add_by-requires : goal.add_by-requires
-add_by-requires c = (omega (arith, c.loop-i.invariant.made.rest.room), keeping-index c.loop-i.invariant c.requires.1.1)
+add_by-requires c = record { used_bound = omega (arith, c.loop-i.invariant.made.rest.room); indexed = keeping-index c.loop-i.invariant c.requires.indexed.1 }
 
 pub shape_of-slots-in-Refused : goal.shape_of-slots-in-Refused
 shape_of-slots-in-Refused c = absurd (rows-refused c.loop-i.invariant.made c.loop-i-test.true (same-addition c.carved_key-key.ensures c.carved_info-info.ensures refl) c.add_by.ensures.store.answer (ap outcome c.in-Refused.is))
@@ -54,4 +54,4 @@ pub shape_of-nexts : goal.shape_of-nexts
 shape_of-nexts c = keeping-nexts c.loop-i.invariant
 
 pub returns : goal.returns
-returns c = stores-by (rows-added-all c.loop-i.invariant.made c.loop-i-test.false c.requires.0) refl refl (c.loop-i.invariant.heads-kept, c.loop-i.invariant.nexts-kept)
+returns c = stores-by (rows-added-all c.loop-i.invariant.made c.loop-i-test.false c.requires.entries_bound) refl refl (c.loop-i.invariant.heads-kept, c.loop-i.invariant.nexts-kept)

@@ -13,22 +13,22 @@ use Rattle.path.proofs.WayLaws.{WayText, way-text-room, way-text-more, way-text-
 use Rattle.path.proofs.ways.put_way.Goals as goal
 
 pub put_end-to-requires : goal.put_end-to-requires
-put_end-to-requires c = omega (arith, c.requires.1, path-long c.args.journal.now c.args.image.now (chain_by c.args.slots.now c.args.way.now c.args.up))
+put_end-to-requires c = omega (arith, c.requires.up_in_bounds, path-long c.args.journal.now c.args.image.now (chain_by c.args.slots.now c.args.way.now c.args.up))
 
 pub loop-left-init : goal.loop-left-init
 loop-left-init c = (record { ends = refl; same = refl; count = refl }, omega arith)
 
 pub offset_bounds-way-left : goal.offset_bounds-way-left
-offset_bounds-way-left c = omega (arith, c.loop-left.invariant.1, c.requires.0.slots.short, c.well_formed)
+offset_bounds-way-left c = omega (arith, c.loop-left.invariant.1, c.requires.way_asks.slots.short, c.well_formed)
 
 pub bounds-way-left : goal.bounds-way-left
-bounds-way-left c = omega (arith, c.loop-left.invariant.1, c.loop-left-test.true, c.requires.0.slots.short)
+bounds-way-left c = omega (arith, c.loop-left.invariant.1, c.loop-left-test.true, c.requires.way_asks.slots.short)
 
 pub info_at-info-requires : goal.info_at-info-requires
-info_at-info-requires c = c.requires.0.slots.within _ (omega (arith, c.loop-left.invariant.1, c.loop-left-test.true))
+info_at-info-requires c = c.requires.way_asks.slots.within _ (omega (arith, c.loop-left.invariant.1, c.loop-left-test.true))
 
 pub put_step-to-requires : goal.put_step-to-requires
-put_step-to-requires c = (rw c.info_at-info.ensures (c.requires.0.insides _ (omega (arith, c.loop-left.invariant.1, c.loop-left-test.true))), rw c.info_at-info.ensures (way-text-room c.loop-left.invariant.0 (step_text c.args.journal.now c.args.image.now (slot_name c.args.slots.now (get_or c.args.way.now (c.loop-left.left - 1) 0))) (names_text c.args.journal.now c.args.image.now (way_places c.args.slots.now c.args.way.now (c.loop-left.left - 1))) (text-less c.args.slots.now c.args.way.now c.loop-left.left c.loop-left-test.true c.args.journal.now c.args.image.now) (omega (arith, c.requires.1, path-long c.args.journal.now c.args.image.now (chain_by c.args.slots.now c.args.way.now c.args.up), c.put_end-to.ensures.0, ap length c.put_end-to.ensures.1, length-sets c.args.text.now c.args.at (end_text c.args.up.end)))))
+put_step-to-requires c = record { place_value = rw c.info_at-info.ensures (c.requires.way_asks.insides _ (omega (arith, c.loop-left.invariant.1, c.loop-left-test.true))); place_in_bounds = rw c.info_at-info.ensures (way-text-room c.loop-left.invariant.0 (step_text c.args.journal.now c.args.image.now (slot_name c.args.slots.now (get_or c.args.way.now (c.loop-left.left - 1) 0))) (names_text c.args.journal.now c.args.image.now (way_places c.args.slots.now c.args.way.now (c.loop-left.left - 1))) (text-less c.args.slots.now c.args.way.now c.loop-left.left c.loop-left-test.true c.args.journal.now c.args.image.now) (omega (arith, c.requires.up_in_bounds, path-long c.args.journal.now c.args.image.now (chain_by c.args.slots.now c.args.way.now c.args.up), c.put_end-to.ensures.value, ap length c.put_end-to.ensures.text_after, length-sets c.args.text.now c.args.at (end_text c.args.up.end)))) }
 
 pub loop-left-smaller : goal.loop-left-smaller
 loop-left-smaller c = omega (arith, c.loop-left-test.true)

@@ -8,13 +8,10 @@ use Rattle.path_text.proofs.NameLaws.{step-parts, step-long}
 use Rattle.path_text.proofs.text.put_step.Goals as goal
 
 pub put_byte-to-requires : goal.put_byte-to-requires
-put_byte-to-requires c = omega (arith, c.requires.1, step-long c.args.journal.now c.args.image.now c.args.place)
+put_byte-to-requires c = omega (arith, c.requires.place_in_bounds, step-long c.args.journal.now c.args.image.now c.args.place)
 
 pub put_place-requires : goal.put_place-requires
-put_place-requires c = (
-  c.requires.0,
-  second-room c.args.text.now c.args.at (0x5C ∷ []) (place_text c.args.journal.now c.args.image.now c.args.place) (step-parts c.args.journal.now c.args.image.now c.args.place) c.put_byte-to.ensures c.requires.1,
-)
+put_place-requires c = record { place_value = c.requires.place_value; place_in_bounds = (second-room c.args.text.now c.args.at (0x5C ∷ []) (place_text c.args.journal.now c.args.image.now c.args.place) (step-parts c.args.journal.now c.args.image.now c.args.place) c.put_byte-to.ensures c.requires.place_in_bounds, ) }
 
 pub returns : goal.returns
 returns c =

@@ -45,10 +45,9 @@ build-requires c =
     (omega (arith, fits), λ h. let g = root.requires h in omega (arith, fits))
 
 pub add_backward-requires : goal.add_backward-requires
-add_backward-requires c =
-    let root = c in
+add_backward-requires c = let root = c in
     let s = root.args in
-    (first-room s.journal.now s.image.now s.records.now (table s.slots.now s.used) s.forward.now c.refusal-refused.ensures c.if-refused-ne0.false c.records_fit.ensures (not-false _ c.if-not-records_fit.false), (index-again (length s.heads.now) (table s.slots.now s.used) s.nexts.now c.build.ensures.0 c.build.ensures.1, λ h. let g = root.requires (omega (arith, heads-long (length s.heads.now) (table s.slots.now s.used) s.nexts.now c.build.ensures.0 c.build.ensures.1)) in omega (arith, nexts-long (length s.heads.now) (table s.slots.now s.used) s.nexts.now c.build.ensures.0 c.build.ensures.1)))
+    record { records_bound = first-room s.journal.now s.image.now s.records.now (table s.slots.now s.used) s.forward.now c.refusal-refused.ensures c.if-refused-ne0.false c.records_fit.ensures (not-false _ c.if-not-records_fit.false); indexed = (index-again (length s.heads.now) (table s.slots.now s.used) s.nexts.now c.build.ensures.heads_after c.build.ensures.nexts_after, λ h. let g = root.requires (omega (arith, heads-long (length s.heads.now) (table s.slots.now s.used) s.nexts.now c.build.ensures.heads_after c.build.ensures.nexts_after)) in omega (arith, nexts-long (length s.heads.now) (table s.slots.now s.used) s.nexts.now c.build.ensures.heads_after c.build.ensures.nexts_after)) }
 
 pub overflow_mul-n : goal.overflow_mul-n
 overflow_mul-n c =
@@ -78,4 +77,4 @@ pub returns-in-Used : goal.returns-in-Used
 returns-in-Used c =
     let root = c in
     let s = root.args in
-    begun-begins s.journal.now s.image.now s.records.now (table s.slots.now s.used) s.forward.now s.heads.now s.nexts.now (starts s.journal.now s.image.now s.records.now (table s.slots.now s.used) s.forward.now c.refusal-refused.ensures c.if-refused-ne0.false c.records_fit.ensures (not-false _ c.if-not-records_fit.false) c.records_fit-2.ensures (not-false _ c.if-not-records_fit-2.false)) c.build.ensures.0 c.build.ensures.1 (adding-room (table s.slots.now s.used) (walked_back s.journal.now s.records.now) (first-room s.journal.now s.image.now s.records.now (table s.slots.now s.used) s.forward.now c.refusal-refused.ensures c.if-refused-ne0.false c.records_fit.ensures (not-false _ c.if-not-records_fit.false))) c.add_backward.ensures.heads-are c.add_backward.ensures.nexts-are (start-begun s.journal.now s.image.now s.records.now (table s.slots.now s.used) s.forward.now c.refusal-refused.ensures c.if-refused-ne0.false c.records_fit.ensures (not-false _ c.if-not-records_fit.false) c.records_fit-2.ensures (not-false _ c.if-not-records_fit-2.false) c.add_backward.ensures.store.answer (ap outcome c.in-Used.is) c.add_backward.ensures.store.slots-are c.put_words.ensures)
+    begun-begins s.journal.now s.image.now s.records.now (table s.slots.now s.used) s.forward.now s.heads.now s.nexts.now (starts s.journal.now s.image.now s.records.now (table s.slots.now s.used) s.forward.now c.refusal-refused.ensures c.if-refused-ne0.false c.records_fit.ensures (not-false _ c.if-not-records_fit.false) c.records_fit-2.ensures (not-false _ c.if-not-records_fit-2.false)) c.build.ensures.heads_after c.build.ensures.nexts_after (adding-room (table s.slots.now s.used) (walked_back s.journal.now s.records.now) (first-room s.journal.now s.image.now s.records.now (table s.slots.now s.used) s.forward.now c.refusal-refused.ensures c.if-refused-ne0.false c.records_fit.ensures (not-false _ c.if-not-records_fit.false))) c.add_backward.ensures.heads-are c.add_backward.ensures.nexts-are (start-begun s.journal.now s.image.now s.records.now (table s.slots.now s.used) s.forward.now c.refusal-refused.ensures c.if-refused-ne0.false c.records_fit.ensures (not-false _ c.if-not-records_fit.false) c.records_fit-2.ensures (not-false _ c.if-not-records_fit-2.false) c.add_backward.ensures.store.answer (ap outcome c.in-Used.is) c.add_backward.ensures.store.slots-are c.put_words.ensures)

@@ -26,7 +26,7 @@ pub replaces_backward-requires : goal.replaces_backward-requires
 replaces_backward-requires c = tt
 
 pub add_by-requires : goal.add_by-requires
-add_by-requires c = (omega (arith, c.loop-i.invariant.made.rest.room), keeping-index c.loop-i.invariant c.requires.1.1)
+add_by-requires c = record { used_bound = omega (arith, c.loop-i.invariant.made.rest.room); indexed = keeping-index c.loop-i.invariant c.requires.indexed.1 }
 
 pub shape_of-slots-in-Refused : goal.shape_of-slots-in-Refused
 shape_of-slots-in-Refused c = absurd (rows-refused c.loop-i.invariant.made c.loop-i-test.true (added-backward c.entry_from_last-entry.ensures c.replaces_backward.ensures) c.add_by.ensures.store.answer (ap outcome c.in-Refused.is))
@@ -59,4 +59,4 @@ pub shape_of-nexts : goal.shape_of-nexts
 shape_of-nexts c = keeping-nexts c.loop-i.invariant
 
 pub returns : goal.returns
-returns c = stores-by (rows-added-all c.loop-i.invariant.made c.loop-i-test.false c.requires.0) refl refl (c.loop-i.invariant.heads-kept, c.loop-i.invariant.nexts-kept)
+returns c = stores-by (rows-added-all c.loop-i.invariant.made c.loop-i-test.false c.requires.records_bound) refl refl (c.loop-i.invariant.heads-kept, c.loop-i.invariant.nexts-kept)

@@ -5,7 +5,7 @@ use borrow.Author.Rules.{rules}
 use Rattle.usn_fields.proofs.fields.put_hex_field.Goals as goal
 
 pub put_byte-requires : goal.put_byte-requires
-put_byte-requires c = omega (arith, hex-length 8 c.args.n, c.put_hex-end.ensures.0)
+put_byte-requires c = omega (arith, hex-length 8 c.args.n, c.put_hex-end.ensures.value)
 
 pub returns : goal.returns
 returns c = hex-filled _ _ c.args.n c.put_hex-end.ensures c.put_byte.ensures

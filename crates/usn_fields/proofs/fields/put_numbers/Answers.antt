@@ -7,13 +7,13 @@ use borrow.Author.Rules.{rules}
 use Rattle.usn_fields.proofs.fields.put_numbers.Goals as goal
 
 pub put_signed_field-seconds-requires : goal.put_signed_field-seconds-requires
-put_signed_field-seconds-requires c = omega (arith, c.requires, c.put_pair-usn.ensures.1.1, c.put_pair-usn.auto.0, c.put_pair-parent.ensures.1.1, c.put_pair-parent.auto.0, c.put_pair-file.ensures.1.1, c.put_pair-file.auto.0)
+put_signed_field-seconds-requires c = omega (arith, c.requires, c.put_pair-usn.ensures.upper_bound, c.put_pair-usn.auto.0, c.put_pair-parent.ensures.upper_bound, c.put_pair-parent.auto.0, c.put_pair-file.ensures.upper_bound, c.put_pair-file.auto.0)
 
 pub put_pair-reason-requires : goal.put_pair-reason-requires
-put_pair-reason-requires c = omega (arith, c.requires, c.put_signed_field-seconds.ensures.1.1, c.put_signed_field-seconds.auto.0, c.put_pair-usn.ensures.1.1, c.put_pair-usn.auto.0, c.put_pair-parent.ensures.1.1, c.put_pair-parent.auto.0, c.put_pair-file.ensures.1.1, c.put_pair-file.auto.0)
+put_pair-reason-requires c = omega (arith, c.requires, c.put_signed_field-seconds.ensures.upper_bound, c.put_signed_field-seconds.auto.0, c.put_pair-usn.ensures.upper_bound, c.put_pair-usn.auto.0, c.put_pair-parent.ensures.upper_bound, c.put_pair-parent.auto.0, c.put_pair-file.ensures.upper_bound, c.put_pair-file.auto.0)
 
 pub put_hex_field-requires : goal.put_hex_field-requires
-put_hex_field-requires c = omega (arith, c.requires, c.put_pair-reason.ensures.1.1, c.put_pair-reason.auto.0, c.put_signed_field-seconds.ensures.1.1, c.put_signed_field-seconds.auto.0, c.put_pair-usn.ensures.1.1, c.put_pair-usn.auto.0, c.put_pair-parent.ensures.1.1, c.put_pair-parent.auto.0, c.put_pair-file.ensures.1.1, c.put_pair-file.auto.0)
+put_hex_field-requires c = omega (arith, c.requires, c.put_pair-reason.ensures.upper_bound, c.put_pair-reason.auto.0, c.put_signed_field-seconds.ensures.upper_bound, c.put_signed_field-seconds.auto.0, c.put_pair-usn.ensures.upper_bound, c.put_pair-usn.auto.0, c.put_pair-parent.ensures.upper_bound, c.put_pair-parent.auto.0, c.put_pair-file.ensures.upper_bound, c.put_pair-file.auto.0)
 
 pub shape_of-text : goal.shape_of-text
 shape_of-text c = omega (arith, c.put_hex_field.auto.0, c.put_pair-reason.auto.0, c.put_signed_field-seconds.auto.0, c.put_pair-usn.auto.0, c.put_pair-parent.auto.0, c.put_pair-file.auto.0)

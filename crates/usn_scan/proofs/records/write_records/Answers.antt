@@ -15,13 +15,13 @@ unfolding scanned
 loop-next-init c = writing_start place_words 2 _ _
 
 pub scan_step-requires : goal.scan_step-requires
-scan_step-requires c = c.requires.0
+scan_step-requires c = c.requires.extract_len_bound
 
 pub shape_of-list-in-Stop : goal.shape_of-list-in-Stop
 shape_of-list-in-Stop c = c.loop-next.invariant.same
 
 pub returns-in-Stop : goal.returns-in-Stop
-returns-in-Stop c = let w = ap record_places (rest _ _ c.in-Stop.is c.scan_step.ensures) in (omega (arith, c.loop-next.invariant.count, ap length w), writing-end place_words 2 (λ _. refl) c.loop-next.invariant w c.requires.1)
+returns-in-Stop c = let w = ap record_places (rest _ _ c.in-Stop.is c.scan_step.ensures) in record { value = omega (arith, c.loop-next.invariant.count, ap length w); list_after = writing-end place_words 2 (λ _. refl) c.loop-next.invariant w c.requires.extract_in_bounds }
 
 pub loop-next-smaller-in-Move : goal.loop-next-smaller-in-Move
 loop-next-smaller-in-Move c = let w = rest _ _ c.in-Move.is c.scan_step.ensures in omega arith
@@ -30,10 +30,10 @@ pub loop-next-preserved-in-Move : goal.loop-next-preserved-in-Move
 loop-next-preserved-in-Move c = let w = rest _ _ c.in-Move.is c.scan_step.ensures in writing-skip c.loop-next.invariant (ap record_places (w.0 ∙ sym (skipped _ c.skip_zeros-o.ensures)))
 
 pub put_pair-requires : goal.put_pair-requires
-put_pair-requires c = let w = rest _ _ c.in-Record.is c.scan_step.ensures in writing-room place_words 2 (λ _. refl) c.loop-next.invariant (ap record_places w.0) c.requires.1
+put_pair-requires c = let w = rest _ _ c.in-Record.is c.scan_step.ensures in writing-room place_words 2 (λ _. refl) c.loop-next.invariant (ap record_places w.0) c.requires.extract_in_bounds
 
 pub overflow_add-i : goal.overflow_add-i
-overflow_add-i c = let w = rest _ _ c.in-Record.is c.scan_step.ensures in omega (arith, writing-room place_words 2 (λ _. refl) c.loop-next.invariant (ap record_places w.0) c.requires.1)
+overflow_add-i c = let w = rest _ _ c.in-Record.is c.scan_step.ensures in omega (arith, writing-room place_words 2 (λ _. refl) c.loop-next.invariant (ap record_places w.0) c.requires.extract_in_bounds)
 
 pub loop-next-smaller-in-Record : goal.loop-next-smaller-in-Record
 loop-next-smaller-in-Record c = let w = rest _ _ c.in-Record.is c.scan_step.ensures in omega arith

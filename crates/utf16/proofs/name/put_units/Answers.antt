@@ -12,10 +12,10 @@ pub overflow_cast-text : goal.overflow_cast-text
 overflow_cast-text c = omega arith
 
 pub bounds-text-to : goal.bounds-text-to
-bounds-text-to c = ascii-room c.loop-left.invariant c.le_u16-unit.ensures c.loop-left-test.true c.if-unit-lt128.true c.requires.1
+bounds-text-to c = ascii-room c.loop-left.invariant c.le_u16-unit.ensures c.loop-left-test.true c.if-unit-lt128.true c.requires.units_in_bounds_2
 
 pub overflow_add-to : goal.overflow_add-to
-overflow_add-to c = omega (arith, ascii-room c.loop-left.invariant c.le_u16-unit.ensures c.loop-left-test.true c.if-unit-lt128.true c.requires.1)
+overflow_add-to c = omega (arith, ascii-room c.loop-left.invariant c.le_u16-unit.ensures c.loop-left-test.true c.if-unit-lt128.true c.requires.units_in_bounds_2)
 
 pub overflow_add-from : goal.overflow_add-from
 overflow_add-from c = omega arith
@@ -33,7 +33,7 @@ pub first_code_point-first-requires : goal.first_code_point-first-requires
 first_code_point-first-requires c = omega arith
 
 pub put_code_point-to-requires : goal.put_code_point-to-requires
-put_code_point-to-requires c = (c.first_code_point-first.ensures.valid, putting-room c.loop-left.invariant c.first_code_point-first.ensures c.requires.1)
+put_code_point-to-requires c = record { code_bound = c.first_code_point-first.ensures.valid; code_in_bounds = putting-room c.loop-left.invariant c.first_code_point-first.ensures c.requires.units_in_bounds_2 }
 
 pub overflow_mul-from : goal.overflow_mul-from
 overflow_mul-from c = omega arith
