@@ -53,12 +53,13 @@ pub record Links (m : ℕ) (t : Table) (heads nexts : List ℕ) : Type 0 where
 
 -- they are an index of it
 pub links-index : {m : ℕ} {t : Table} {heads nexts : List ℕ} (w : List ℕ) → Links m t heads nexts → length nexts ≡ length w
-    → (heads ≡ heads_of m t) × (nexts ≡ nexts_of m t w)
+    → record { heads_after : heads ≡ heads_of m t; nexts_after : nexts ≡ nexts_of m t w }
 unfolding heads_of nexts_of
-links-index {m} {t} {heads} {nexts} w x l = (
-  rows_ext (head_of m t) m heads x.many x.head,
-  rw (lt-ltb 0 m x.some) (rows_ext (next_of m t) (length w) nexts l (λ i g. x.next i (omega (arith, l)))),
-)
+links-index {m} {t} {heads} {nexts} w x l =
+    record {
+      heads_after = rows_ext (head_of m t) m heads x.many x.head;
+      nexts_after = rw (lt-ltb 0 m x.some) (rows_ext (next_of m t) (length w) nexts l (λ i g. x.next i (omega (arith, l))));
+    }
 
 -- and an index has them
 pub index-links : {m : ℕ} (t : Table) (heads nexts w : List ℕ) → 0 < m → heads ≡ heads_of m t → nexts ≡ nexts_of m t w → Links m t heads nexts
@@ -87,14 +88,14 @@ no-nexts m t nexts h = rw (le-ltb 0 m h)
 
 -- a link is put first where there is none of its hash, and behind the last one else
 pub linked-first : (heads nexts : List ℕ) (h last link : ℕ) {b : ℕ} → b ≡ h → last ≡ 0
-    → (set heads b link ≡ heads_linked heads h last link) × (nexts ≡ nexts_linked nexts last link)
+    → record { heads_after : set heads b link ≡ heads_linked heads h last link; nexts_after : nexts ≡ nexts_linked nexts last link }
 unfolding heads_linked nexts_linked
-linked-first heads nexts h last link e z = (rw (eq-eqb last 0 z, e), rw (eq-eqb last 0 z))
+linked-first heads nexts h last link e z = record { heads_after = rw (eq-eqb last 0 z, e); nexts_after = rw (eq-eqb last 0 z) }
 
 pub linked-behind : (heads nexts : List ℕ) (h last link : ℕ) → (last ≡ 0 → ⊥)
-    → (heads ≡ heads_linked heads h last link) × (set nexts (last - 1) link ≡ nexts_linked nexts last link)
+    → record { heads_after : heads ≡ heads_linked heads h last link; nexts_after : set nexts (last - 1) link ≡ nexts_linked nexts last link }
 unfolding heads_linked nexts_linked
-linked-behind heads nexts h last link z = (rw (ne_eqb last 0 z), rw (ne_eqb last 0 z))
+linked-behind heads nexts h last link z = record { heads_after = rw (ne_eqb last 0 z); nexts_after = rw (ne_eqb last 0 z) }
 
 pub length-linked : (nexts : List ℕ) (last link : ℕ) → length (nexts_linked nexts last link) ≡ length nexts
 unfolding nexts_linked

@@ -9,7 +9,7 @@ use Rattle.base.proofs.ListLaws.{sets-append}
 
 -- what every writer ensures: vs, written over l from i on, leaves m and ends at r
 abbrev pub Put : List ℕ → List ℕ → ℕ → ℕ → List ℕ → Type 0
-Put l m i r vs = (r ≡ i + length vs) × (m ≡ sets l i vs)
+Put l m i r vs = record { value : r ≡ i + length vs; text_after : m ≡ sets l i vs }
 
 -- the same bytes by another name
 pub put_as : (l : List ℕ) (i : ℕ) {m : List ℕ} {r : ℕ} {us vs : List ℕ} → us ≡ vs → Put l m i r vs → Put l m i r us
@@ -18,10 +18,14 @@ put_as l i e p = rw e p
 module _ (l : List ℕ) (i : ℕ) {m : List ℕ} {r : ℕ} (us vs : List ℕ) (p : Put l m i r us) where
   -- the room that a write leaves for the next
   pub put-room : i + length (us ++ vs) ≤ length l → r + length vs ≤ length m
-  put-room h = omega (arith, p.0, ap length p.1, length-sets l i us, length-append us vs)
+  put-room h = omega (arith, p.value, ap length p.text_after, length-sets l i us, length-append us vs)
 
   pub put_then : {n : List ℕ} {q : ℕ} → Put m n r q vs → Put l n i q (us ++ vs)
-  put_then k = (omega (arith, p.0, k.0, length-append us vs), k.1 ∙ rw (p.1, p.0) (sym (sets-append l i us vs)))
+  put_then k =
+      record {
+        value = omega (arith, p.value, k.value, length-append us vs);
+        text_after = k.text_after ∙ rw (p.text_after, p.value) (sym (sets-append l i us vs));
+      }
 
 -- a store in front of a write may come first
 set_before : (l : List ℕ) (i j v : ℕ) (us : List ℕ) → j < i → set (sets l i us) j v ≡ sets (set l j v) i us

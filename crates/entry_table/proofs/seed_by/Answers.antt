@@ -13,23 +13,23 @@ pub returns-then-slots-used : goal.returns-then-slots-used
 returns-then-slots-used c = stores-by (stored-bad-state _ _ _ c.if-slots-used.true) refl refl (refl, refl)
 
 pub returns-then-not-carved_inside : goal.returns-then-not-carved_inside
-returns-then-not-carved_inside c = stores-by (stored-outside _ _ _ c.if-slots-used.false (sym c.carved_inside.ensures ∙ not-true _ c.if-not-carved_inside.true)) refl refl (refl, refl)
+returns-then-not-carved_inside c = stores-by (stored-outside _ _ _ c.if-slots-used.false (sym c.carved_inside.ensures ∙ c.if-not-carved_inside.true)) refl refl (refl, refl)
 
 pub returns-then-not-carved_fit : goal.returns-then-not-carved_fit
 returns-then-not-carved_fit c =
-    let full = leb-false _ _ (sym c.carved_fit.ensures ∙ not-true _ c.if-not-carved_fit.true) in
-    stores-by (stored-inside _ _ _ c.if-slots-used.false (sym c.carved_inside.ensures ∙ not-false _ c.if-not-carved_inside.false) ∙ adding-full _ _ full) refl refl (refl, refl)
+    let full = leb-false _ _ (sym c.carved_fit.ensures ∙ c.if-not-carved_fit.true) in
+    stores-by (stored-inside _ _ _ c.if-slots-used.false (sym c.carved_inside.ensures ∙ c.if-not-carved_inside.false) ∙ adding-full _ _ full) refl refl (refl, refl)
 
 pub build-requires : goal.build-requires
 build-requires c = (omega (arith, c.if-slots-used.false), λ h. let g = c.requires h in omega (arith, c.if-slots-used.false))
 
 pub add_carved-requires : goal.add_carved-requires
 add_carved-requires c = let (heads, nexts) = c.build.ensures in
-    record { entries_bound = leb-true _ _ (sym c.carved_fit.ensures ∙ not-false _ c.if-not-carved_fit.false); indexed = (index-again _ _ _ heads nexts, λ h. let g = c.requires (omega (arith, heads-long _ _ _ heads nexts)) in omega (arith, nexts-long _ _ _ heads nexts)) }
+    record { entries_bound = leb-true _ _ (sym c.carved_fit.ensures ∙ c.if-not-carved_fit.false); indexed = (index-again _ _ _ heads nexts, λ h. let g = c.requires (omega (arith, heads-long _ _ _ heads nexts)) in omega (arith, nexts-long _ _ _ heads nexts)) }
 
 pub returns : goal.returns
 returns c =
     let (heads, nexts) = c.build.ensures in
     let a = c.add_carved.ensures in
-    let all = adding-room _ _ (leb-true _ _ (sym c.carved_fit.ensures ∙ not-false _ c.if-not-carved_fit.false)) in
-    stores-by (stored-inside _ _ _ c.if-slots-used.false (sym c.carved_inside.ensures ∙ not-false _ c.if-not-carved_inside.false) ∙ all) (rw all at a.store.answer) (rw all at a.store.slots-are) (index-then _ _ _ heads nexts all a.heads-are a.nexts-are)
+    let all = adding-room _ _ (leb-true _ _ (sym c.carved_fit.ensures ∙ c.if-not-carved_fit.false)) in
+    stores-by (stored-inside _ _ _ c.if-slots-used.false (sym c.carved_inside.ensures ∙ c.if-not-carved_inside.false) ∙ all) (rw all at a.store.answer) (rw all at a.store.slots-are) (index-then _ _ _ heads nexts all a.heads-are a.nexts-are)

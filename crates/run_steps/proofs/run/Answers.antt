@@ -9,9 +9,8 @@ use Rattle.run_steps.proofs.run.Goals as goal
 
 pub loop-i-init : goal.loop-i-init
 loop-i-init c =
-    let root = c in
-    let s = root.args in
-    (going_start s.journal.now s.image.now s.records.now s.forward.now s.rewind s.heads.now s.nexts.now s.ends.now s.text.now root.requires, refl)
+    let s = c.args in
+    (going_start s.journal.now s.image.now s.records.now s.forward.now s.rewind s.heads.now s.nexts.now s.ends.now s.text.now c.requires, refl)
 
 pub ahead_forward-read-requires : goal.ahead_forward-read-requires
 ahead_forward-read-requires c = tt
@@ -21,7 +20,7 @@ slice_bounds-run_step-end c = sym c.loop-i.invariant.1
 
 pub run_step-requires : goal.run_step-requires
 run_step-requires c = let root = c in
-    let s = root.args in
+    let s = c.args in
     record { run_asks = going-asks s.journal.now s.image.now s.records.now s.forward.now s.rewind s.heads.now s.nexts.now s.ends.now s.text.now c.loop-i.invariant.0; levels_in_bounds = (omega (arith, c.loop-i.invariant.1), going-room s.journal.now s.image.now s.records.now s.forward.now s.rewind s.heads.now s.nexts.now s.ends.now s.text.now c.loop-i.invariant.0) }
 
 pub offset_bounds-ends-i : goal.offset_bounds-ends-i
@@ -29,9 +28,8 @@ offset_bounds-ends-i c = omega (arith, c.well_formed)
 
 pub overflow_add-position : goal.overflow_add-position
 overflow_add-position c =
-    let root = c in
-    let s = root.args in
-    omega (arith, going-near s.journal.now s.image.now s.records.now s.forward.now s.rewind s.heads.now s.nexts.now s.ends.now s.text.now c.loop-i.invariant.0 c.loop-i-test.true c.in-To.is c.run_step.ensures.answer, root.well_formed)
+    let s = c.args in
+    omega (arith, going-near s.journal.now s.image.now s.records.now s.forward.now s.rewind s.heads.now s.nexts.now s.ends.now s.text.now c.loop-i.invariant.0 c.loop-i-test.true c.in-To.is c.run_step.ensures.answer, c.well_formed)
 
 pub overflow_add-i : goal.overflow_add-i
 overflow_add-i c = omega (arith, c.well_formed)
@@ -41,8 +39,7 @@ loop-i-smaller c = omega (arith, c.loop-i.invariant.0.ends-long)
 
 pub loop-i-preserved : goal.loop-i-preserved
 loop-i-preserved c =
-    let root = c in
-    let s = root.args in
+    let s = c.args in
     (going-made s.journal.now s.image.now s.records.now s.forward.now s.rewind s.heads.now s.nexts.now s.ends.now s.text.now c.loop-i.invariant.0 c.loop-i-test.true c.in-To.is c.run_step.ensures, c.run_step.auto.1.1.1.1.1.1.1.0 ∙ c.loop-i.invariant.1)
 
 pub shape_of-forward-in-End : goal.shape_of-forward-in-End
@@ -50,14 +47,12 @@ shape_of-forward-in-End c = omega (arith, c.loop-i.invariant.0.words_long)
 
 pub shape_of-heads-in-End : goal.shape_of-heads-in-End
 shape_of-heads-in-End c =
-    let root = c in
-    let s = root.args in
+    let s = c.args in
     omega (arith, going-heads s.journal.now s.image.now s.records.now s.forward.now s.rewind s.heads.now s.nexts.now s.ends.now s.text.now c.loop-i.invariant.0)
 
 pub shape_of-nexts-in-End : goal.shape_of-nexts-in-End
 shape_of-nexts-in-End c =
-    let root = c in
-    let s = root.args in
+    let s = c.args in
     omega (arith, going-nexts s.journal.now s.image.now s.records.now s.forward.now s.rewind s.heads.now s.nexts.now s.ends.now s.text.now c.loop-i.invariant.0)
 
 pub shape_of-ends-in-End : goal.shape_of-ends-in-End
@@ -75,14 +70,12 @@ shape_of-forward-in-Refused c = omega (arith, c.loop-i.invariant.0.words_long)
 
 pub shape_of-heads-in-Refused : goal.shape_of-heads-in-Refused
 shape_of-heads-in-Refused c =
-    let root = c in
-    let s = root.args in
+    let s = c.args in
     omega (arith, going-heads s.journal.now s.image.now s.records.now s.forward.now s.rewind s.heads.now s.nexts.now s.ends.now s.text.now c.loop-i.invariant.0)
 
 pub shape_of-nexts-in-Refused : goal.shape_of-nexts-in-Refused
 shape_of-nexts-in-Refused c =
-    let root = c in
-    let s = root.args in
+    let s = c.args in
     omega (arith, going-nexts s.journal.now s.image.now s.records.now s.forward.now s.rewind s.heads.now s.nexts.now s.ends.now s.text.now c.loop-i.invariant.0)
 
 pub shape_of-ends-in-Refused : goal.shape_of-ends-in-Refused
@@ -100,14 +93,12 @@ shape_of-forward c = omega (arith, c.loop-i.invariant.0.words_long)
 
 pub shape_of-heads : goal.shape_of-heads
 shape_of-heads c =
-    let root = c in
-    let s = root.args in
+    let s = c.args in
     omega (arith, going-heads s.journal.now s.image.now s.records.now s.forward.now s.rewind s.heads.now s.nexts.now s.ends.now s.text.now c.loop-i.invariant.0)
 
 pub shape_of-nexts : goal.shape_of-nexts
 shape_of-nexts c =
-    let root = c in
-    let s = root.args in
+    let s = c.args in
     omega (arith, going-nexts s.journal.now s.image.now s.records.now s.forward.now s.rewind s.heads.now s.nexts.now s.ends.now s.text.now c.loop-i.invariant.0)
 
 pub shape_of-ends : goal.shape_of-ends

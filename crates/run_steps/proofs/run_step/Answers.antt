@@ -5,29 +5,26 @@ use Rattle.run_steps.proofs.run_step.Goals as goal
 
 pub returns-then-records-position : goal.returns-then-records-position
 returns-then-records-position c =
-    let root = c in
-    let s = root.args in
-    step_end s.journal.now s.image.now s.records.now s.forward.now s.standing.rewind.used s.standing.rewind.position root.requires.0.passes s.standing.at s.heads.now s.nexts.now s.text.now root.requires.0.index c.if-records-position.true
+    let s = c.args in
+    step_end s.journal.now s.image.now s.records.now s.forward.now s.standing.rewind.used s.standing.rewind.position c.requires.0.passes s.standing.at s.heads.now s.nexts.now s.text.now c.requires.0.index c.if-records-position.true
 
 pub make_step-requires : goal.make_step-requires
 make_step-requires c =
-    let root = c in
-    let s = root.args in
-    let p = tests s.journal.now s.image.now s.records.now s.forward.now s.standing.rewind.used s.standing.rewind.position root.requires.0.passes in
+    let s = c.args in
+    let p = tests s.journal.now s.image.now s.records.now s.forward.now s.standing.rewind.used s.standing.rewind.position c.requires.0.passes in
     record {
       fits = p.fits;
-      index = root.requires.0.index;
-      wide = root.requires.0.wide;
+      index = c.requires.0.index;
+      wide = c.requires.0.wide;
       names = p.places;
       near-journal = p.journal;
       near-image = p.image;
-      own = own-inside s.journal.now s.image.now s.records.now s.forward.now s.standing.rewind.used s.standing.rewind.position root.requires.0.passes c.if-records-position.false c.entry_at-entry.ensures;
-      long = root.requires.1.0;
-      room = root.requires.1.1;
+      own = own-inside s.journal.now s.image.now s.records.now s.forward.now s.standing.rewind.used s.standing.rewind.position c.requires.0.passes c.if-records-position.false c.entry_at-entry.ensures;
+      long = c.requires.1.0;
+      room = c.requires.1.1;
     }
 
 pub returns : goal.returns
 returns c =
-    let root = c in
-    let s = root.args in
-    step-next s.journal.now s.image.now s.records.now s.forward.now s.standing.rewind.used s.standing.rewind.position root.requires.0.passes c.if-records-position.false c.entry_at-entry.ensures s.standing.at s.heads.now s.nexts.now s.text.now c.make_step.ensures
+    let s = c.args in
+    step-next s.journal.now s.image.now s.records.now s.forward.now s.standing.rewind.used s.standing.rewind.position c.requires.0.passes c.if-records-position.false c.entry_at-entry.ensures s.standing.at s.heads.now s.nexts.now s.text.now c.make_step.ensures

@@ -17,7 +17,7 @@ pub is_inside-requires : goal.is_inside-requires
 is_inside-requires c = tt
 
 pub returns-then-not-is_inside : goal.returns-then-not-is_inside
-returns-then-not-is_inside c = carved-names _ c.args.entries.now (passing-outside c.loop-i.invariant c.loop-i-test.true c.carved_name.ensures c.is_inside.ensures (not-true _ c.if-not-is_inside.true))
+returns-then-not-is_inside c = carved-names _ c.args.entries.now (passing-outside c.loop-i.invariant c.loop-i-test.true c.carved_name.ensures c.is_inside.ensures c.if-not-is_inside.true)
 
 pub overflow_add-i : goal.overflow_add-i
 overflow_add-i c = omega arith
@@ -26,7 +26,7 @@ pub loop-i-smaller : goal.loop-i-smaller
 loop-i-smaller c = omega arith
 
 pub loop-i-preserved : goal.loop-i-preserved
-loop-i-preserved c = passing-row c.loop-i.invariant c.loop-i-test.true c.carved_name.ensures c.is_inside.ensures (not-false _ c.if-not-is_inside.false)
+loop-i-preserved c = passing-row c.loop-i.invariant c.loop-i-test.true c.carved_name.ensures c.is_inside.ensures c.if-not-is_inside.false
 
 pub returns : goal.returns
 returns c = carved-names _ c.args.entries.now (passing-end c.loop-i.invariant c.loop-i-test.false)

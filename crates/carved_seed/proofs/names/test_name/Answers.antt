@@ -7,10 +7,10 @@ use borrow.Author.Rules.{rules}
 use Rattle.carved_seed.proofs.names.test_name.Goals as goal
 
 pub returns-then-not-is_inside : goal.returns-then-not-is_inside
-returns-then-not-is_inside c = name-tested _ _ (ap outcome c.in-Used.is) c.name_of.ensures c.is_inside.ensures (not-true _ c.if-not-is_inside.true)
+returns-then-not-is_inside c = name-tested _ _ (ap outcome c.in-Used.is) c.name_of.ensures c.is_inside.ensures c.if-not-is_inside.true
 
 pub returns-else-not-is_inside : goal.returns-else-not-is_inside
-returns-else-not-is_inside c = name-tested _ _ (ap outcome c.in-Used.is) c.name_of.ensures c.is_inside.ensures (not-false _ c.if-not-is_inside.false)
+returns-else-not-is_inside c = name-tested _ _ (ap outcome c.in-Used.is) c.name_of.ensures c.is_inside.ensures c.if-not-is_inside.false
 
 pub returns-in-Refused : goal.returns-in-Refused
 returns-in-Refused c = name-handed _ _ (ap outcome c.in-Refused.is)

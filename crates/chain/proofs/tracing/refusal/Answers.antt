@@ -15,7 +15,7 @@ pub returns-then-slots-used : goal.returns-then-slots-used
 returns-then-slots-used c = refusal-state _ _ c.if-journal_length-gt-DOMAIN.false c.if-image_length-gt-DOMAIN.false c.if-slots-used.true
 
 pub returns-then-not-all_inside : goal.returns-then-not-all_inside
-returns-then-not-all_inside c = refusal-outside _ _ c.if-journal_length-gt-DOMAIN.false c.if-image_length-gt-DOMAIN.false c.if-slots-used.false (sym c.all_inside.ensures ∙ not-true _ c.if-not-all_inside.true)
+returns-then-not-all_inside c = refusal-outside _ _ c.if-journal_length-gt-DOMAIN.false c.if-image_length-gt-DOMAIN.false c.if-slots-used.false (sym c.all_inside.ensures ∙ c.if-not-all_inside.true)
 
 pub returns : goal.returns
-returns c = refusal-none _ _ c.if-journal_length-gt-DOMAIN.false c.if-image_length-gt-DOMAIN.false c.if-slots-used.false (sym c.all_inside.ensures ∙ not-false _ c.if-not-all_inside.false)
+returns c = refusal-none _ _ c.if-journal_length-gt-DOMAIN.false c.if-image_length-gt-DOMAIN.false c.if-slots-used.false (sym c.all_inside.ensures ∙ c.if-not-all_inside.false)

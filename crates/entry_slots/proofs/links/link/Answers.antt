@@ -7,13 +7,11 @@ use Rattle.entry_slots.proofs.links.link.Goals as goal
 
 pub offset_bounds-heads-hash_of : goal.offset_bounds-heads-hash_of
 offset_bounds-heads-hash_of c =
-    let s = c in
-    omega (arith, c.hash_of.ensures, hash-below (length s.args.heads.now) s.args.key s.requires.0)
+    omega (arith, c.hash_of.ensures, hash-below (length c.args.heads.now) c.args.key c.requires.0)
 
 pub bounds-heads-hash_of : goal.bounds-heads-hash_of
 bounds-heads-hash_of c =
-    let s = c in
-    rw c.hash_of.ensures (hash-below (length s.args.heads.now) s.args.key s.requires.0)
+    rw c.hash_of.ensures (hash-below (length c.args.heads.now) c.args.key c.requires.0)
 
 pub returns-then-last-eq0 : goal.returns-then-last-eq0
 returns-then-last-eq0 c = linked-first _ _ _ _ _ c.hash_of.ensures c.if-last-eq0.true

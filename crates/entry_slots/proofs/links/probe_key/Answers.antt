@@ -10,20 +10,17 @@ hash_of-requires c = c.requires.stride_in_bounds.1
 
 pub offset_bounds-heads-hash_of : goal.offset_bounds-heads-hash_of
 offset_bounds-heads-hash_of c =
-    let s = c in
-    let x = indexed-links _ _ _ s.requires.stride_in_bounds.1 s.requires.indexed in
+    let x = indexed-links _ _ _ c.requires.stride_in_bounds.1 c.requires.indexed in
     omega (arith, walking-below x _ c.hash_of.ensures)
 
 pub bounds-heads-hash_of : goal.bounds-heads-hash_of
 bounds-heads-hash_of c =
-    let s = c in
-    let x = indexed-links _ _ _ s.requires.stride_in_bounds.1 s.requires.indexed in
+    let x = indexed-links _ _ _ c.requires.stride_in_bounds.1 c.requires.indexed in
     walking-below x _ c.hash_of.ensures
 
 pub loop-link-init : goal.loop-link-init
 loop-link-init c =
-    let s = c in
-    let x = indexed-links _ _ _ s.requires.stride_in_bounds.1 s.requires.indexed in
+    let x = indexed-links _ _ _ c.requires.stride_in_bounds.1 c.requires.indexed in
     walking_start x _ c.hash_of.ensures
 
 pub overflow_sub-i : goal.overflow_sub-i
@@ -37,9 +34,8 @@ same_key-requires c = tt
 
 pub returns-then-same_key : goal.returns-then-same_key
 returns-then-same_key c =
-    let s = c in
-    let x = indexed-links _ _ _ s.requires.stride_in_bounds.1 s.requires.indexed in
-    walking-hit x _ s.requires.stride_in_bounds.2 c.loop-link-test.true c.loop-link.invariant c.key_at.ensures c.same_key.ensures c.if-same_key.true
+    let x = indexed-links _ _ _ c.requires.stride_in_bounds.1 c.requires.indexed in
+    walking-hit x _ c.requires.stride_in_bounds.2 c.loop-link-test.true c.loop-link.invariant c.key_at.ensures c.same_key.ensures c.if-same_key.true
 
 pub offset_bounds-nexts-i : goal.offset_bounds-nexts-i
 offset_bounds-nexts-i c = omega (arith, c.loop-link.invariant.within, c.requires.stride_in_bounds.2)
@@ -49,15 +45,13 @@ bounds-nexts-i c = omega (arith, c.loop-link.invariant.within, c.requires.stride
 
 pub loop-link-smaller : goal.loop-link-smaller
 loop-link-smaller c =
-    let s = c in
-    let x = indexed-links _ _ _ s.requires.stride_in_bounds.1 s.requires.indexed in
-    walking-less x _ s.requires.stride_in_bounds.2 c.loop-link-test.true c.loop-link.invariant
+    let x = indexed-links _ _ _ c.requires.stride_in_bounds.1 c.requires.indexed in
+    walking-less x _ c.requires.stride_in_bounds.2 c.loop-link-test.true c.loop-link.invariant
 
 pub loop-link-preserved : goal.loop-link-preserved
 loop-link-preserved c =
-    let s = c in
-    let x = indexed-links _ _ _ s.requires.stride_in_bounds.1 s.requires.indexed in
-    walking-next x _ s.requires.stride_in_bounds.2 c.loop-link-test.true c.loop-link.invariant c.key_at.ensures c.same_key.ensures c.if-same_key.false
+    let x = indexed-links _ _ _ c.requires.stride_in_bounds.1 c.requires.indexed in
+    walking-next x _ c.requires.stride_in_bounds.2 c.loop-link-test.true c.loop-link.invariant c.key_at.ensures c.same_key.ensures c.if-same_key.false
 
 pub returns : goal.returns
 returns c = walking-last c.loop-link.invariant c.loop-link-test.false

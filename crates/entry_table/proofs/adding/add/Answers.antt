@@ -6,4 +6,4 @@ use borrow.Author.Rules.{rules}
 use Rattle.entry_table.proofs.adding.add.Goals as goal
 
 pub add_by-requires : goal.add_by-requires
-add_by-requires c = let s = c in record { used_bound = s.requires; indexed = ((none-indexed s.args.slots.now [] [] s.args.used (omega (arith, s.requires)) (omega arith)).1, λ h. absurd (omega arith)) }
+add_by-requires c = record { used_bound = c.requires; indexed = ((none-indexed c.args.slots.now [] [] c.args.used (omega (arith, c.requires)) (omega arith)).1, λ h. absurd (omega arith)) }

@@ -4,4 +4,4 @@ use borrow.Author.Rules.{rules}
 use Rattle.entry_table.proofs.adding.add_by.Goals as goal
 
 pub seek-found-requires : goal.seek-found-requires
-seek-found-requires c = let s = c in record { stride_in_bounds = (omega (arith, s.requires.used_bound), λ h. let g = s.requires.indexed.1 h in omega (arith, s.requires.used_bound)); indexed = s.requires.indexed.0 }
+seek-found-requires c = record { stride_in_bounds = (omega (arith, c.requires.used_bound), λ h. let g = c.requires.indexed.1 h in omega (arith, c.requires.used_bound)); indexed = c.requires.indexed.0 }

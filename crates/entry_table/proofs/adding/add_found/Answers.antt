@@ -12,7 +12,7 @@ use borrow.Author.Rules.{rules}
 use Rattle.entry_table.proofs.adding.add_found.Goals as goal
 
 pub put-requires : goal.put-requires
-put-requires c = let s = c in omega (arith, s.requires.used_bound, find-used _ _ _ (sym (probed-hit _ _ _ c.requires.probed c.in-Hit.is)))
+put-requires c = omega (arith, c.requires.used_bound, find-used _ _ _ (sym (probed-hit _ _ _ c.requires.probed c.in-Hit.is)))
 
 pub returns-then-slots-used : goal.returns-then-slots-used
 returns-then-slots-used c = stores-by (add-full _ _ (probed_none _ _ _ c.requires.probed c.in-Last.is) refl c.if-slots-used.true) refl refl (refl, refl)
@@ -24,28 +24,24 @@ returns-then-heads-eq0 c =
 
 pub link-requires : goal.link-requires
 link-requires c =
-    let s = c in
-    let some : 0 < length s.args.heads.now = omega (arith, c.if-heads-eq0.false) in (
+    let some : 0 < length c.args.heads.now = omega (arith, c.if-heads-eq0.false) in (
       omega (arith, some),
-      omega (arith, c.if-slots-used.false, s.requires.indexed.1 some),
+      omega (arith, c.if-slots-used.false, c.requires.indexed.1 some),
       omega (arith, last_within _ (probed-last _ _ _ c.requires.probed c.in-Last.is some)),
     )
 
 pub returns-then-replace : goal.returns-then-replace
 returns-then-replace c =
-    let s = c in
     let e = probed-hit _ _ _ c.requires.probed c.in-Hit.is in
-    stores-by (add-over _ _ e refl s.requires.used_bound c.if-replace.true) refl c.put.ensures (kept-over _ _ _ s.requires.indexed.0 _ _ e s.requires.used_bound)
+    stores-by (add-over _ _ e refl c.requires.used_bound c.if-replace.true) refl c.put.ensures (kept-over _ _ _ c.requires.indexed.0 _ _ e c.requires.used_bound)
 
 pub returns-else-replace : goal.returns-else-replace
 returns-else-replace c =
-    let s = c in
-    stores-by (add_kept _ _ (probed-hit _ _ _ c.requires.probed c.in-Hit.is) refl s.requires.used_bound c.if-replace.false) refl refl s.requires.indexed.0
+    stores-by (add_kept _ _ (probed-hit _ _ _ c.requires.probed c.in-Hit.is) refl c.requires.used_bound c.if-replace.false) refl refl c.requires.indexed.0
 
 pub returns-else-heads-eq0 : goal.returns-else-heads-eq0
 returns-else-heads-eq0 c =
-    let s = c in
     let l = c.in-Last.is in
-    let some : 0 < length s.args.heads.now = omega (arith, c.if-heads-eq0.false) in
+    let some : 0 < length c.args.heads.now = omega (arith, c.if-heads-eq0.false) in
     stores-by (add-new _ _ (probed_none _ _ _ c.requires.probed l) refl (omega (arith, c.if-slots-used.false))) refl c.put-in-Last.ensures
-    (index-more _ _ _ some s.requires.indexed.0 _ _ (probed-last _ _ _ c.requires.probed l some) (omega (arith, c.if-slots-used.false)) (s.requires.indexed.1 some) c.link.ensures.heads_after c.link.ensures.nexts_after)
+    (index-more _ _ _ some c.requires.indexed.0 _ _ (probed-last _ _ _ c.requires.probed l some) (omega (arith, c.if-slots-used.false)) (c.requires.indexed.1 some) c.link.ensures.heads_after c.link.ensures.nexts_after)

@@ -1,4 +1,6 @@
 -- Each way out by the tests that led to it.
+use mathlib.Core.Path.{ap}
+use mathlib.Core.Bool.{not}
 use native.Mathlib.Omega.{arith}
 use Rattle.mft_sectors.proofs.StoredLaws.{start-before, past-image, past-entry, no-signature, by-array}
 use borrow.Author.Rules.{rules}
@@ -17,7 +19,7 @@ pub returns-then-end-place : goal.returns-then-end-place
 returns-then-end-place c = past-entry _ _ _ (omega arith) (omega (arith, c.if-end-place.true))
 
 pub returns-then-not-has_signature : goal.returns-then-not-has_signature
-returns-then-not-has_signature c = no-signature _ _ _ (omega arith) c.if-end-place.false c.has_signature.ensures c.if-not-has_signature.true
+returns-then-not-has_signature c = no-signature _ _ _ (omega arith) c.if-end-place.false c.has_signature.ensures (ap not c.if-not-has_signature.true)
 
 pub returns : goal.returns
-returns c = by-array _ _ _ (omega arith) c.if-end-place.false c.has_signature.ensures c.if-not-has_signature.false c.is_sound.ensures
+returns c = by-array _ _ _ (omega arith) c.if-end-place.false c.has_signature.ensures (ap not c.if-not-has_signature.false) c.is_sound.ensures

@@ -19,62 +19,54 @@ returns-then-refused-ne0 c =
 
 pub records_fit-requires : goal.records_fit-requires
 records_fit-requires c =
-    let root = c in
-    let s = root.args in
+    let s = c.args in
     omega (arith, start_fits s.journal.now s.image.now s.records.now (table s.slots.now s.used) s.forward.now c.refusal-refused.ensures c.if-refused-ne0.false)
 
 pub returns-then-not-records_fit : goal.returns-then-not-records_fit
 returns-then-not-records_fit c =
-    refused-begins _ _ _ _ _ _ _ (first-full _ _ _ _ _ c.refusal-refused.ensures c.if-refused-ne0.false c.records_fit.ensures (not-true _ c.if-not-records_fit.true))
+    refused-begins _ _ _ _ _ _ _ (first-full _ _ _ _ _ c.refusal-refused.ensures c.if-refused-ne0.false c.records_fit.ensures c.if-not-records_fit.true)
 
 pub records_fit-requires-2 : goal.records_fit-requires-2
 records_fit-requires-2 c =
-    let root = c in
-    let s = root.args in
+    let s = c.args in
     omega (arith, start_fits s.journal.now s.image.now s.records.now (table s.slots.now s.used) s.forward.now c.refusal-refused.ensures c.if-refused-ne0.false)
 
 pub returns-then-not-records_fit-2 : goal.returns-then-not-records_fit-2
 returns-then-not-records_fit-2 c =
-    refused-begins _ _ _ _ _ _ _ (forward-full _ _ _ _ _ c.refusal-refused.ensures c.if-refused-ne0.false c.records_fit.ensures (not-false _ c.if-not-records_fit.false) c.records_fit-2.ensures (not-true _ c.if-not-records_fit-2.true))
+    refused-begins _ _ _ _ _ _ _ (forward-full _ _ _ _ _ c.refusal-refused.ensures c.if-refused-ne0.false c.records_fit.ensures c.if-not-records_fit.false c.records_fit-2.ensures c.if-not-records_fit-2.true)
 
 pub build-requires : goal.build-requires
 build-requires c =
-    let root = c in
-    let s = root.args in
+    let s = c.args in
     let fits = start_fits s.journal.now s.image.now s.records.now (table s.slots.now s.used) s.forward.now c.refusal-refused.ensures c.if-refused-ne0.false in
-    (omega (arith, fits), λ h. let g = root.requires h in omega (arith, fits))
+    (omega (arith, fits), λ h. let g = c.requires h in omega (arith, fits))
 
 pub add_backward-requires : goal.add_backward-requires
 add_backward-requires c = let root = c in
-    let s = root.args in
-    record { records_bound = first-room s.journal.now s.image.now s.records.now (table s.slots.now s.used) s.forward.now c.refusal-refused.ensures c.if-refused-ne0.false c.records_fit.ensures (not-false _ c.if-not-records_fit.false); indexed = (index-again (length s.heads.now) (table s.slots.now s.used) s.nexts.now c.build.ensures.heads_after c.build.ensures.nexts_after, λ h. let g = root.requires (omega (arith, heads-long (length s.heads.now) (table s.slots.now s.used) s.nexts.now c.build.ensures.heads_after c.build.ensures.nexts_after)) in omega (arith, nexts-long (length s.heads.now) (table s.slots.now s.used) s.nexts.now c.build.ensures.heads_after c.build.ensures.nexts_after)) }
+    let s = c.args in
+    record { records_bound = first-room s.journal.now s.image.now s.records.now (table s.slots.now s.used) s.forward.now c.refusal-refused.ensures c.if-refused-ne0.false c.records_fit.ensures c.if-not-records_fit.false; indexed = (index-again (length s.heads.now) (table s.slots.now s.used) s.nexts.now c.build.ensures.heads_after c.build.ensures.nexts_after, λ h. let g = c.requires (omega (arith, heads-long (length s.heads.now) (table s.slots.now s.used) s.nexts.now c.build.ensures.heads_after c.build.ensures.nexts_after)) in omega (arith, nexts-long (length s.heads.now) (table s.slots.now s.used) s.nexts.now c.build.ensures.heads_after c.build.ensures.nexts_after)) }
 
 pub overflow_mul-n : goal.overflow_mul-n
 overflow_mul-n c =
-    let root = c in
-    let s = root.args in
-    omega (arith, copy-room s.journal.now s.image.now s.records.now (table s.slots.now s.used) s.forward.now c.refusal-refused.ensures c.if-refused-ne0.false c.records_fit.ensures (not-false _ c.if-not-records_fit.false) c.records_fit-2.ensures (not-false _ c.if-not-records_fit-2.false) c.add_backward.ensures.store.answer (ap outcome c.in-Used.is) c.add_backward.ensures.store.slots-are, root.well_formed)
+    let s = c.args in
+    omega (arith, copy-room s.journal.now s.image.now s.records.now (table s.slots.now s.used) s.forward.now c.refusal-refused.ensures c.if-refused-ne0.false c.records_fit.ensures c.if-not-records_fit.false c.records_fit-2.ensures c.if-not-records_fit-2.false c.add_backward.ensures.store.answer (ap outcome c.in-Used.is) c.add_backward.ensures.store.slots-are, c.well_formed)
 
 pub slice_bounds-put_words-end : goal.slice_bounds-put_words-end
 slice_bounds-put_words-end c =
-    let root = c in
-    let s = root.args in
-    omega (arith, copied-room s.journal.now s.image.now s.records.now (table s.slots.now s.used) s.forward.now c.refusal-refused.ensures c.if-refused-ne0.false c.records_fit.ensures (not-false _ c.if-not-records_fit.false) c.records_fit-2.ensures (not-false _ c.if-not-records_fit-2.false) c.add_backward.ensures.store.answer (ap outcome c.in-Used.is) c.add_backward.ensures.store.slots-are, root.well_formed)
+    let s = c.args in
+    omega (arith, copied-room s.journal.now s.image.now s.records.now (table s.slots.now s.used) s.forward.now c.refusal-refused.ensures c.if-refused-ne0.false c.records_fit.ensures c.if-not-records_fit.false c.records_fit-2.ensures c.if-not-records_fit-2.false c.add_backward.ensures.store.answer (ap outcome c.in-Used.is) c.add_backward.ensures.store.slots-are, c.well_formed)
 
 pub put_words-requires : goal.put_words-requires
 put_words-requires c =
-    let root = c in
-    let s = root.args in
-    omega (arith, copy-room s.journal.now s.image.now s.records.now (table s.slots.now s.used) s.forward.now c.refusal-refused.ensures c.if-refused-ne0.false c.records_fit.ensures (not-false _ c.if-not-records_fit.false) c.records_fit-2.ensures (not-false _ c.if-not-records_fit-2.false) c.add_backward.ensures.store.answer (ap outcome c.in-Used.is) c.add_backward.ensures.store.slots-are)
+    let s = c.args in
+    omega (arith, copy-room s.journal.now s.image.now s.records.now (table s.slots.now s.used) s.forward.now c.refusal-refused.ensures c.if-refused-ne0.false c.records_fit.ensures c.if-not-records_fit.false c.records_fit-2.ensures c.if-not-records_fit-2.false c.add_backward.ensures.store.answer (ap outcome c.in-Used.is) c.add_backward.ensures.store.slots-are)
 
 pub returns-in-Refused : goal.returns-in-Refused
 returns-in-Refused c =
-    let root = c in
-    let s = root.args in
-    absurd (start-never s.journal.now s.image.now s.records.now (table s.slots.now s.used) s.forward.now c.refusal-refused.ensures c.if-refused-ne0.false c.records_fit.ensures (not-false _ c.if-not-records_fit.false) c.records_fit-2.ensures (not-false _ c.if-not-records_fit-2.false) c.add_backward.ensures.store.answer (ap outcome c.in-Refused.is))
+    let s = c.args in
+    absurd (start-never s.journal.now s.image.now s.records.now (table s.slots.now s.used) s.forward.now c.refusal-refused.ensures c.if-refused-ne0.false c.records_fit.ensures c.if-not-records_fit.false c.records_fit-2.ensures c.if-not-records_fit-2.false c.add_backward.ensures.store.answer (ap outcome c.in-Refused.is))
 
 pub returns-in-Used : goal.returns-in-Used
 returns-in-Used c =
-    let root = c in
-    let s = root.args in
-    begun-begins s.journal.now s.image.now s.records.now (table s.slots.now s.used) s.forward.now s.heads.now s.nexts.now (starts s.journal.now s.image.now s.records.now (table s.slots.now s.used) s.forward.now c.refusal-refused.ensures c.if-refused-ne0.false c.records_fit.ensures (not-false _ c.if-not-records_fit.false) c.records_fit-2.ensures (not-false _ c.if-not-records_fit-2.false)) c.build.ensures.heads_after c.build.ensures.nexts_after (adding-room (table s.slots.now s.used) (walked_back s.journal.now s.records.now) (first-room s.journal.now s.image.now s.records.now (table s.slots.now s.used) s.forward.now c.refusal-refused.ensures c.if-refused-ne0.false c.records_fit.ensures (not-false _ c.if-not-records_fit.false))) c.add_backward.ensures.heads-are c.add_backward.ensures.nexts-are (start-begun s.journal.now s.image.now s.records.now (table s.slots.now s.used) s.forward.now c.refusal-refused.ensures c.if-refused-ne0.false c.records_fit.ensures (not-false _ c.if-not-records_fit.false) c.records_fit-2.ensures (not-false _ c.if-not-records_fit-2.false) c.add_backward.ensures.store.answer (ap outcome c.in-Used.is) c.add_backward.ensures.store.slots-are c.put_words.ensures)
+    let s = c.args in
+    begun-begins s.journal.now s.image.now s.records.now (table s.slots.now s.used) s.forward.now s.heads.now s.nexts.now (starts s.journal.now s.image.now s.records.now (table s.slots.now s.used) s.forward.now c.refusal-refused.ensures c.if-refused-ne0.false c.records_fit.ensures c.if-not-records_fit.false c.records_fit-2.ensures c.if-not-records_fit-2.false) c.build.ensures.heads_after c.build.ensures.nexts_after (adding-room (table s.slots.now s.used) (walked_back s.journal.now s.records.now) (first-room s.journal.now s.image.now s.records.now (table s.slots.now s.used) s.forward.now c.refusal-refused.ensures c.if-refused-ne0.false c.records_fit.ensures c.if-not-records_fit.false)) c.add_backward.ensures.heads-are c.add_backward.ensures.nexts-are (start-begun s.journal.now s.image.now s.records.now (table s.slots.now s.used) s.forward.now c.refusal-refused.ensures c.if-refused-ne0.false c.records_fit.ensures c.if-not-records_fit.false c.records_fit-2.ensures c.if-not-records_fit-2.false c.add_backward.ensures.store.answer (ap outcome c.in-Used.is) c.add_backward.ensures.store.slots-are c.put_words.ensures)

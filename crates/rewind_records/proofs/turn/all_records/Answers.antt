@@ -23,7 +23,7 @@ pub is_record-requires : goal.is_record-requires
 is_record-requires c = tt
 
 pub returns-then-not-is_record : goal.returns-then-not-is_record
-returns-then-not-is_record c = records-test c.args.journal.now c.args.records.now (passing-outside c.loop-i.invariant c.loop-i-test.true refl c.is_record.ensures (not-true _ c.if-not-is_record.true))
+returns-then-not-is_record c = records-test c.args.journal.now c.args.records.now (passing-outside c.loop-i.invariant c.loop-i-test.true refl c.is_record.ensures c.if-not-is_record.true)
 
 pub overflow_add-i : goal.overflow_add-i
 overflow_add-i c = omega arith
@@ -32,7 +32,7 @@ pub loop-i-smaller : goal.loop-i-smaller
 loop-i-smaller c = omega arith
 
 pub loop-i-preserved : goal.loop-i-preserved
-loop-i-preserved c = passing-row c.loop-i.invariant c.loop-i-test.true refl c.is_record.ensures (not-false _ c.if-not-is_record.false)
+loop-i-preserved c = passing-row c.loop-i.invariant c.loop-i-test.true refl c.is_record.ensures c.if-not-is_record.false
 
 pub returns : goal.returns
 returns c = records-test c.args.journal.now c.args.records.now (passing-end c.loop-i.invariant c.loop-i-test.false)

@@ -19,13 +19,13 @@ pub all_records-requires : goal.all_records-requires
 all_records-requires c = tt
 
 pub returns-then-not-all_records : goal.returns-then-not-all_records
-returns-then-not-all_records c = test-records (environment_with c.args.journal.now c.args.image_length c.args.records.now) (table c.args.slots.now c.args.used) c.if-journal-gt-DOMAIN.false c.if-image_length-gt-DOMAIN.false c.if-slots-used.false c.all_records.ensures (not-true _ c.if-not-all_records.true)
+returns-then-not-all_records c = test-records (environment_with c.args.journal.now c.args.image_length c.args.records.now) (table c.args.slots.now c.args.used) c.if-journal-gt-DOMAIN.false c.if-image_length-gt-DOMAIN.false c.if-slots-used.false c.all_records.ensures c.if-not-all_records.true
 
 pub all_inside-requires : goal.all_inside-requires
 all_inside-requires c = omega arith
 
 pub returns-then-not-all_inside : goal.returns-then-not-all_inside
-returns-then-not-all_inside c = test-names (environment_with c.args.journal.now c.args.image_length c.args.records.now) (table c.args.slots.now c.args.used) c.if-journal-gt-DOMAIN.false c.if-image_length-gt-DOMAIN.false c.if-slots-used.false c.all_records.ensures (not-false _ c.if-not-all_records.false) c.all_inside.ensures (not-true _ c.if-not-all_inside.true)
+returns-then-not-all_inside c = test-names (environment_with c.args.journal.now c.args.image_length c.args.records.now) (table c.args.slots.now c.args.used) c.if-journal-gt-DOMAIN.false c.if-image_length-gt-DOMAIN.false c.if-slots-used.false c.all_records.ensures c.if-not-all_records.false c.all_inside.ensures c.if-not-all_inside.true
 
 pub returns : goal.returns
-returns c = test-none (environment_with c.args.journal.now c.args.image_length c.args.records.now) (table c.args.slots.now c.args.used) c.if-journal-gt-DOMAIN.false c.if-image_length-gt-DOMAIN.false c.if-slots-used.false c.all_records.ensures (not-false _ c.if-not-all_records.false) c.all_inside.ensures (not-false _ c.if-not-all_inside.false)
+returns c = test-none (environment_with c.args.journal.now c.args.image_length c.args.records.now) (table c.args.slots.now c.args.used) c.if-journal-gt-DOMAIN.false c.if-image_length-gt-DOMAIN.false c.if-slots-used.false c.all_records.ensures c.if-not-all_records.false c.all_inside.ensures c.if-not-all_inside.false

@@ -12,7 +12,7 @@ pub bounds-text-at : goal.bounds-text-at
 bounds-text-at c = omega (arith, ap length (utf8-one c.args.code c.if-code-lt128.true))
 
 pub returns-then-code-lt128 : goal.returns-then-code-lt128
-returns-then-code-lt128 c = put_as _ _ (utf8-one c.args.code c.if-code-lt128.true) (refl, refl)
+returns-then-code-lt128 c = put_as _ _ (utf8-one c.args.code c.if-code-lt128.true) (record { value = refl; text_after = refl })
 
 pub bounds-text-at-then-code-lt2048 : goal.bounds-text-at-then-code-lt2048
 bounds-text-at-then-code-lt2048 c = omega (arith, ap length (utf8-two c.args.code c.if-code-lt128.false c.if-code-lt2048.true))
@@ -21,7 +21,7 @@ pub bounds-text-at-then-code-lt2048-2 : goal.bounds-text-at-then-code-lt2048-2
 bounds-text-at-then-code-lt2048-2 c = simp length-set (omega (arith, ap length (utf8-two c.args.code c.if-code-lt128.false c.if-code-lt2048.true)))
 
 pub returns-then-code-lt2048 : goal.returns-then-code-lt2048
-returns-then-code-lt2048 c = put_as _ _ (utf8-two c.args.code c.if-code-lt128.false c.if-code-lt2048.true) (refl, simp towards_suc)
+returns-then-code-lt2048 c = put_as _ _ (utf8-two c.args.code c.if-code-lt128.false c.if-code-lt2048.true) (record { value = refl; text_after = simp towards_suc })
 
 pub bounds-text-at-then-code-lt65536 : goal.bounds-text-at-then-code-lt65536
 bounds-text-at-then-code-lt65536 c = omega (arith, ap length (utf8-three c.args.code c.if-code-lt2048.false c.if-code-lt65536.true))
@@ -33,7 +33,7 @@ pub bounds-text-at-then-code-lt65536-3 : goal.bounds-text-at-then-code-lt65536-3
 bounds-text-at-then-code-lt65536-3 c = simp length-set (omega (arith, ap length (utf8-three c.args.code c.if-code-lt2048.false c.if-code-lt65536.true)))
 
 pub returns-then-code-lt65536 : goal.returns-then-code-lt65536
-returns-then-code-lt65536 c = put_as _ _ (utf8-three c.args.code c.if-code-lt2048.false c.if-code-lt65536.true) (refl, simp towards_suc)
+returns-then-code-lt65536 c = put_as _ _ (utf8-three c.args.code c.if-code-lt2048.false c.if-code-lt65536.true) (record { value = refl; text_after = simp towards_suc })
 
 pub bounds-text-at-2 : goal.bounds-text-at-2
 bounds-text-at-2 c = omega (arith, ap length (utf8-four c.args.code c.if-code-lt65536.false))
@@ -48,4 +48,4 @@ pub bounds-text-at-5 : goal.bounds-text-at-5
 bounds-text-at-5 c = simp length-set (omega (arith, ap length (utf8-four c.args.code c.if-code-lt65536.false)))
 
 pub returns : goal.returns
-returns c = put_as _ _ (utf8-four c.args.code c.if-code-lt65536.false) (refl, simp towards_suc)
+returns c = put_as _ _ (utf8-four c.args.code c.if-code-lt65536.false) (record { value = refl; text_after = simp towards_suc })
