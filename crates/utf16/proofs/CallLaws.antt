@@ -39,4 +39,4 @@ module _ (s l : List ℕ) where
     unfolding decoding
     text-written e p =
         let room = leb-true _ _ e in
-        written (ap answered (p.0 ∙ zero-add _) ∙ simp (le-ltb _ _ a, le-ltb _ _ room)) (p.1 ∙ sets-front l (text_of s) room)
+        written (ap answered (p.value ∙ zero-add _) ∙ simp (le-ltb _ _ a, le-ltb _ _ room)) (p.text_after ∙ sets-front l (text_of s) room)

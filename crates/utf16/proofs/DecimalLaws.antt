@@ -57,4 +57,4 @@ module _ (l : List ℕ) (i n : ℕ) {m : List ℕ} {r : ℕ} (more : 10 ≤ n) (
   last-room h = omega (arith, put-room l i (decimal (n / 10)) (digit (n % 10) ∷ []) p (rw (decimal-more n more) at h))
 
   pub put_last : Put l (set m r (digit (n % 10))) i (r + 1) (decimal n)
-  put_last = put_as l i (decimal-more n more) (put_then l i (decimal (n / 10)) (digit (n % 10) ∷ []) p (refl, refl))
+  put_last = put_as l i (decimal-more n more) (put_then l i (decimal (n / 10)) (digit (n % 10) ∷ []) p (record { value = refl; text_after = refl }))

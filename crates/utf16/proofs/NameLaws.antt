@@ -70,9 +70,9 @@ module _ {s : List ℕ} {offset n : ℕ} {l₀ : List ℕ} {at : ℕ} {l : List 
   putting-point {p} h k =
       record {
         inside = omega (arith, w.inside, h.within);
-        same = ap length k.1 ∙ length-sets l i (utf8 p.code) ∙ w.same;
-        count = omega (arith, w.count, k.0, first-length h);
-        ends = rw (k.1, k.0) (sym (sets-append l i (utf8 p.code) _) ∙ ap (sets l i) (sym h.text) ∙ w.ends);
+        same = ap length k.text_after ∙ length-sets l i (utf8 p.code) ∙ w.same;
+        count = omega (arith, w.count, k.value, first-length h);
+        ends = rw (k.text_after, k.value) (sym (sets-append l i (utf8 p.code) _) ∙ ap (sets l i) (sym h.text) ∙ w.ends);
       }
 
   -- a unit of ASCII is a byte
@@ -81,7 +81,7 @@ module _ {s : List ℕ} {offset n : ℕ} {l₀ : List ℕ} {at : ℕ} {l : List 
     ascii-room room = omega (arith, putting-room (first-ascii s o left e some h) room, ap length (utf8-one u h))
 
     pub putting-ascii : Putting s offset n l₀ at (set l i u) (o + 2) (left - 1) (i + 1)
-    putting-ascii = putting-point (first-ascii s o left e some h) (put_as l i (utf8-one u h) (refl, refl))
+    putting-ascii = putting-point (first-ascii s o left e some h) (put_as l i (utf8-one u h) (record { value = refl; text_after = refl }))
 
   -- a write that the text of the units left covers
   putting-over : (us : List ℕ) → length us ≤ length (decoded (units_at s o left)) → Putting s offset n l₀ at (sets l i us) o left i
@@ -98,15 +98,15 @@ module _ {s : List ℕ} {offset n : ℕ} {l₀ : List ℕ} {at : ℕ} {l : List 
   rest-room room = omega (arith, w.same, w.count)
 
   pub rest-length : {m : List ℕ} {j : ℕ} → Put l m i j (decoded (units_at s o left)) → length m ≡ length l₀
-  rest-length p = ap length p.1 ∙ length-sets l i (decoded (units_at s o left)) ∙ w.same
+  rest-length p = ap length p.text_after ∙ length-sets l i (decoded (units_at s o left)) ∙ w.same
 
   pub putting-rest : {m : List ℕ} {j : ℕ} → Put l m i j (decoded (units_at s o left)) → Put l₀ m at j (decoded (units_at s offset n))
-  putting-rest p = (p.0 ∙ w.count, p.1 ∙ w.ends)
+  putting-rest p = record { value = p.value ∙ w.count; text_after = p.text_after ∙ w.ends }
 
   pub putting-end : left ≤ 0 → Put l₀ l at i (decoded (units_at s offset n))
   putting-end h =
       let e = units-none s o left h in
-      (omega (arith, w.count, ap length e), ap (sets l i) (sym e) ∙ w.ends)
+      record { value = omega (arith, w.count, ap length e); text_after = ap (sets l i) (sym e) ∙ w.ends }
 
 -- Four units of ASCII are four bytes. A step over the first k of them may write all four: the bytes past the step are the next ones.
 module _ {s : List ℕ} {offset n : ℕ} {l₀ : List ℕ} {at : ℕ} {l : List ℕ} {o left i : ℕ} (w : Putting s offset n l₀ at l o left i) where
