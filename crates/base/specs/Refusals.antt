@@ -46,8 +46,8 @@ abbrev pub bad_buffer : ℕ
 bad_buffer = 11
 
 -- a listed offset has no version 2 or 3 record that its parser accepts
-abbrev pub not_arecord : ℕ
-not_arecord = 12
+abbrev pub not_a_record : ℕ
+not_a_record = 12
 
 -- the most bytes of an extract or an image
 abbrev pub domain : ℕ

@@ -5,7 +5,7 @@ use mathlib.Core.List.{List, [], ◌∷◌}
 use mathlib.Core.Bool.{Bool, true, false, cond, not, ◌||◌}
 use lib.Dec.{ltb, eqb}
 use Rattle.base.specs.Outcome.{Outcome, refused, answered, map_outcome, and_then}
-use Rattle.base.specs.Refusals.{above_domain, bad_state, not_arecord, name_outside, domain}
+use Rattle.base.specs.Refusals.{above_domain, bad_state, not_a_record, name_outside, domain}
 use Rattle.base.proofs.ChoiceLaws.{cond_cases}
 use Rattle.base.proofs.WordLaws.{Domain, domain-answered, domain-refused, domain-choice}
 use Rattle.entry_slots.specs.Names.{all_inside}
@@ -34,13 +34,13 @@ module _ (env : Environment) (t : Table) (P : Bool → ℕ → Type 0) where
   first true a h = a
   first false a h = h
 
-  refusals : P true above_domain → P false bad_state → P false not_arecord → P false name_outside → P false 0
+  refusals : P true above_domain → P false bad_state → P false not_a_record → P false name_outside → P false 0
       → P (ltb domain env.lengths.journal || ltb domain env.lengths.image) (rewind_refusal env t)
   unfolding rewind_refusal
   refusals a b c d e =
       first (ltb domain env.lengths.journal || ltb domain env.lengths.image) a
       (cond_cases (P false) (ltb (slots_in t.words) t.used) {x = bad_state} (λ _. b)
-      (λ _. cond_cases (P false) (not (all_answered env.records)) {x = not_arecord} (λ _. c)
+      (λ _. cond_cases (P false) (not (all_answered env.records)) {x = not_a_record} (λ _. c)
       (λ _. cond_cases (P false) (not (all_inside env.lengths (names_in t.words t.used))) {x = name_outside} {y = 0} (λ _. d) (λ _. e))))
 
 -- where x comes after them

@@ -8,7 +8,7 @@ use borrow.Author.Tests.{lt-ltb, le-ltb, ltb-false, ne_eqb, not-false}
 use lib.ListN.{drop}
 use lib.Dec.{ltb}
 use Rattle.base.specs.Outcome.{Outcome, refused, answered}
-use Rattle.base.specs.Refusals.{above_domain, bad_state, not_arecord, name_outside, domain}
+use Rattle.base.specs.Refusals.{above_domain, bad_state, not_a_record, name_outside, domain}
 use Rattle.base.proofs.ChoiceLaws.{cond_cases, or_left, or_right}
 use Rattle.entry_slots.specs.Names.{all_inside}
 use Rattle.entry_slots.specs.Slots.{slots_in, names_in}
@@ -36,7 +36,7 @@ module _ (env : Environment) (t : Table) where
           sym (simp (le-ltb domain env.lengths.journal a, le-ltb domain env.lengths.image b, lt-ltb (slots_in t.words) t.used h))
 
       module _ (u : t.used ≤ slots_in t.words) {x : Bool} (e : x ≡ all_answered env.records) where
-        pub test-records : x ≡ false → not_arecord ≡ rewind_refusal env t
+        pub test-records : x ≡ false → not_a_record ≡ rewind_refusal env t
         unfolding rewind_refusal
         test-records n =
             let f : all_answered env.records ≡ false = sym e ∙ n in

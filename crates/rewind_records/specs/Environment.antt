@@ -2,7 +2,7 @@
 use Rattle.std.specs.Prelude.{ℕ, List, [], ◌∷◌, map, reverse, Bool, cond, not, ◌||◌, length, ltb, eqb}
 use Rattle.base.specs.Outcome.{Outcome, refused, answered}
 use Rattle.base.specs.Lists.{every}
-use Rattle.base.specs.Refusals.{above_domain, bad_state, not_arecord, name_outside, domain}
+use Rattle.base.specs.Refusals.{above_domain, bad_state, not_a_record, name_outside, domain}
 use Rattle.usn_record.specs.Record.{is_answered}
 use Rattle.entry_slots.specs.Names.{Lengths, lengths, all_inside}
 use Rattle.entry_slots.specs.Slots.{slots_in, names_in}
@@ -47,7 +47,7 @@ unfoldable pub rewind_refusal : Environment → Table → ℕ
 rewind_refusal env t =
     cond (ltb domain env.lengths.journal || ltb domain env.lengths.image) above_domain
     (cond (ltb (slots_in t.words) t.used) bad_state
-    (cond (not (all_answered env.records)) not_arecord
+    (cond (not (all_answered env.records)) not_a_record
     (cond (not (all_inside env.lengths (names_in t.words t.used))) name_outside
     0)))
 

@@ -12,7 +12,7 @@ use Rattle.base.specs.Outcome.{Outcome, refused, answered}
 use Rattle.base.specs.Places.{part, empty_place, place_from}
 use Rattle.base.specs.Agree.{Agree}
 use Rattle.base.specs.Masked.{Within, Apart}
-use Rattle.base.specs.Refusals.{not_arecord}
+use Rattle.base.specs.Refusals.{not_a_record}
 use Rattle.base.specs.declared.Place.{Place}
 use Rattle.base.proofs.ChoiceLaws.{cond_cases, cond-two}
 use Rattle.base.proofs.AgreeLaws.{agree-in}

@@ -15,7 +15,7 @@ use borrow.Author.Tests.{lt-ltb, le-ltb, ltb-false, ne_eqb, eq-eqb}
 use Rattle.base.specs.Outcome.{Outcome, refused, answered}
 use Rattle.base.specs.Places.{part}
 use Rattle.base.specs.Agree.{Agree}
-use Rattle.base.specs.Refusals.{above_domain, short_slice, bad_length, length_past_slice, not_arecord, domain}
+use Rattle.base.specs.Refusals.{above_domain, short_slice, bad_length, length_past_slice, not_a_record, domain}
 use Rattle.base.specs.declared.Place.{Place}
 use Rattle.base.proofs.ChoiceLaws.{cond_cases, or_left, or_right, and-false}
 use Rattle.base.proofs.AgreeLaws.{agree-part, part_length, part-lent}
@@ -223,12 +223,12 @@ record-length-of l s = refl
 
 -- the ways out of `listed`, with n and v the length and version as they were read
 module _ (s : List ℕ) (o : ℕ) where
-  pub listed-no-header : length s < o + 8 → refused not_arecord ≡ listed s o
+  pub listed-no-header : length s < o + 8 → refused not_a_record ≡ listed s o
   unfolding listed
   listed-no-header h = simp (lt-ltb _ _ h)
 
   module _ (a : o + 8 ≤ length s) {n : ℕ} (e : n ≡ le_at 4 s o) where
-    pub listed-past-end : length s < o + n → refused not_arecord ≡ listed s o
+    pub listed-past-end : length s < o + n → refused not_a_record ≡ listed s o
     unfolding listed
     listed-past-end h = simp (le-ltb _ _ a, sym e, lt-ltb _ _ h)
 
@@ -243,6 +243,6 @@ module _ (s : List ℕ) (o : ℕ) where
         unfolding listed
         listed-v3 h k = g ∙ ap as_listed (k ∙ ap (parsed v3) (part-lent s o n)) ∙ simp (le-ltb _ _ a, sym e, le-ltb _ _ b, sym f, h)
 
-      pub listed-other : (v ≡ 2 → ⊥) → (v ≡ 3 → ⊥) → refused not_arecord ≡ listed s o
+      pub listed-other : (v ≡ 2 → ⊥) → (v ≡ 3 → ⊥) → refused not_a_record ≡ listed s o
       unfolding listed
       listed-other g h = simp (le-ltb _ _ a, sym e, le-ltb _ _ b, sym f, ne_eqb v 2 g, ne_eqb v 3 h)

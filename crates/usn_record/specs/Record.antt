@@ -4,7 +4,7 @@ use Rattle.std.specs.Int.{w64}
 use Rattle.std.proofs.Common.{to_z, of_z}
 use Rattle.base.specs.Outcome.{Outcome, refused, answered, refused_as}
 use Rattle.base.specs.Places.{part}
-use Rattle.base.specs.Refusals.{above_domain, short_slice, bad_length, length_past_slice, not_arecord, domain}
+use Rattle.base.specs.Refusals.{above_domain, short_slice, bad_length, length_past_slice, not_a_record, domain}
 use Rattle.usn_record.specs.Bytes.{le_at}
 use Rattle.usn_record.specs.Layout.{Layout, v2, v3}
 use Rattle.usn_record.specs.Fields.{timestamp_of, reference_of, filename_of}
@@ -63,18 +63,18 @@ parsed l s =
 
 -- a parser's outcome about a listed offset: every refusal is the one number
 abbrev pub as_listed : Outcome UsnRecord → Outcome UsnRecord
-as_listed = refused_as not_arecord
+as_listed = refused_as not_a_record
 
 -- the record at o of an extract s, by the version field there: its parser is handed the part as long as the length field
 unfoldable pub listed : List ℕ → ℕ → Outcome UsnRecord
 listed s o =
     let n = le_at 4 s o in
     let version = major_at s o in
-    cond (ltb (length s) (o + 8)) (refused not_arecord)
-    (cond (ltb (length s) (o + n)) (refused not_arecord)
+    cond (ltb (length s) (o + 8)) (refused not_a_record)
+    (cond (ltb (length s) (o + n)) (refused not_a_record)
     (cond (eqb version 2) (as_listed (parsed v2 (part s o n)))
     (cond (eqb version 3) (as_listed (parsed v3 (part s o n)))
-    (refused not_arecord))))
+    (refused not_a_record))))
 
 -- an outcome is an answer
 abbrev pub is_answered : {A : Type 0} → Outcome A → Bool
