@@ -235,6 +235,12 @@ module _ (t : Table) (k : EntryKey) {r : Climbed} {way' : List ℕ} (g : Climbs 
   climbed-slots fits = below-slots fits g.below
 
 -- what the way up asks, with no index, and whatever else
-pub none-climbs : (s : List ℕ) (used : ℕ) {Else : Type 0} → used * stride ≤ length s → Else
-    → ((used * stride ≤ length s) × (0 < length {A = ℕ} [] → used ≤ length {A = ℕ} [])) × (Indexed (table s used) [] [] × Else)
-none-climbs s used fits more = let none = none-indexed s [] [] used fits (omega arith) in (none.0, (none.1, more))
+pub none-climbs : (s : List ℕ) (used : ℕ) {Room : Type 0} → used * stride ≤ length s → Room
+    → record {
+      stride_in_bounds : (used * stride ≤ length s) × (0 < length {A = ℕ} [] → used ≤ length {A = ℕ} []);
+      indexed : Indexed (table s used) [] [];
+      levels_of_in_bounds : Room;
+    }
+none-climbs s used fits more =
+    let none = none-indexed s [] [] used fits (omega arith) in
+    record { stride_in_bounds = none.0; indexed = none.1; levels_of_in_bounds = more }

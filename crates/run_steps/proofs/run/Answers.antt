@@ -40,7 +40,7 @@ loop-i-smaller c = omega (arith, c.loop-i.invariant.0.ends-long)
 pub loop-i-preserved : goal.loop-i-preserved
 loop-i-preserved c =
     let s = c.args in
-    (going-made s.journal.now s.image.now s.records.now s.forward.now s.rewind s.heads.now s.nexts.now s.ends.now s.text.now c.loop-i.invariant.0 c.loop-i-test.true c.in-To.is c.run_step.ensures, c.run_step.auto.1.1.1.1.1.1.1.0 ∙ c.loop-i.invariant.1)
+    (going-made s.journal.now s.image.now s.records.now s.forward.now s.rewind s.heads.now s.nexts.now s.ends.now s.text.now c.loop-i.invariant.0 c.loop-i-test.true c.in-To.is c.run_step.ensures, c.run_step.auto.way ∙ c.loop-i.invariant.1)
 
 pub shape_of-forward-in-End : goal.shape_of-forward-in-End
 shape_of-forward-in-End c = omega (arith, c.loop-i.invariant.0.words_long)

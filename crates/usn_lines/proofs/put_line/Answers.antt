@@ -5,4 +5,4 @@ use borrow.Author.Rules.{rules}
 use Rattle.usn_lines.proofs.put_line.Goals as goal
 
 pub returns : goal.returns
-returns c = line-puts c.args.journal.now c.args.records.now c.args.text.now c.args.forward.now c.args.number c.args.rewind c.requires.1 c.put_record-at.ensures c.put_record-at.auto.1.1.0 c.put_path-path.ensures c.put_byte-end.ensures
+returns c = line-puts c.args.journal.now c.args.records.now c.args.text.now c.args.forward.now c.args.number c.args.rewind c.requires.1 c.put_record-at.ensures c.put_record-at.auto.text c.put_path-path.ensures c.put_byte-end.ensures

@@ -14,4 +14,4 @@ pub top_key-requires : goal.top_key-requires
 top_key-requires c = below-slots c.requires.stride_in_bounds.0 (risen-below (table c.args.slots.now c.args.used) c.args.key c.args.way.now c.rise-names.ensures)
 
 pub returns : goal.returns
-returns c = risen (table c.args.slots.now c.args.used) c.args.key c.args.way.now c.rise-names.ensures c.rise-names.auto.1.1.1.1.1.1.0 (end_is c.args.slots.now _ c.rise-names.result c.args.key c.end_under-end.ensures c.top_key.ensures)
+returns c = risen (table c.args.slots.now c.args.used) c.args.key c.args.way.now c.rise-names.ensures c.rise-names.auto.way (end_is c.args.slots.now _ c.rise-names.result c.args.key c.end_under-end.ensures c.top_key.ensures)
