@@ -65,4 +65,4 @@ module _ (journal image : List ℕ) (p : NamePlace) (l : List ℕ) where
         decode-written f h q =
             let fits : length (place_text journal image p) ≤ length l = rw f at h in
             let o = text-fits (place_text journal image) (length l) placed fits in
-            record { answer = rw o (ap answered (q.0 ∙ zero-add _)); written = rw o (q.1 ∙ sets-front l (place_text journal image p) fits) }
+            record { answer = rw o (ap answered (q.value ∙ zero-add _)); written = rw o (q.text_after ∙ sets-front l (place_text journal image p) fits) }

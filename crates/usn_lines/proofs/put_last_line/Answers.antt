@@ -5,10 +5,6 @@ use Rattle.usn_lines.proofs.PartLaws.{last-puts}
 use borrow.Author.Rules.{rules}
 use Rattle.usn_lines.proofs.put_last_line.Goals as goal
 
--- UNMAPPED
-slice-aggregate-put-bytes : tie.Need-slice-aggregate-put-bytes
-slice-aggregate-put-bytes c = search rules
-
 pub put_decimal-end-requires : goal.put_decimal-end-requires
 put_decimal-end-requires c = omega (arith, c.put_bytes-at.ensures.value, c.put_bytes-at.auto, c.requires, decimal-word c.args.count c.ranges.count.fits)
 

@@ -6,10 +6,6 @@ use Rattle.usn_lines.specs.Listing.{header_line}
 use borrow.Author.Rules.{rules}
 use Rattle.usn_lines.proofs.put_part.Goals as goal
 
--- UNMAPPED
-slice-aggregate-put-bytes : tie.Need-slice-aggregate-put-bytes
-slice-aggregate-put-bytes c = search rules
-
 pub returns-then-number-eq0 : goal.returns-then-number-eq0
 unfolding header_line
 returns-then-number-eq0 c = head_puts c.args.journal.now _ c.args.text.now c.args.forward.now c.args.rewind c.args.number c.if-number-eq0.true c.put_bytes-end.ensures

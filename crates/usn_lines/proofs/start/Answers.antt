@@ -3,10 +3,6 @@ use Rattle.usn_lines.proofs.PassLaws.{start-refused, start-begun}
 use borrow.Author.Rules.{rules}
 use Rattle.usn_lines.proofs.start.Goals as goal
 
--- UNMAPPED
-slice-aggregate-rewind-start : tie.Need-slice-aggregate-rewind-start
-slice-aggregate-rewind-start c = search rules
-
 pub returns-in-Refused : goal.returns-in-Refused
 returns-in-Refused c = start-refused c.args.journal.now c.args.records.now c.args.first.now c.args.forward.now c.rewind_start.ensures c.in-Refused.is
 

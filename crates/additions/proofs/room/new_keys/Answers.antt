@@ -1,11 +1,10 @@
 use Prim.Native.Nat.{◌-◌}
 use native.Mathlib.Omega.{arith}
-use borrow.Author.Tests.{not-true, not-false}
-use mathlib.Core.Logic.{⊎_elim}
 use Rattle.entry_slots.specs.Table.{table}
 use Rattle.additions.specs.Sources.{source_at}
 use Rattle.additions.proofs.AdditionLaws.{Counting, counting-start, counting-new, counting-known, counting-end}
 use Rattle.additions.proofs.room.new_keys.Goals as goal
+use Rattle.additions.proofs.room.new_keys.Goals.{then-not-is_seen, else-not-is_seen}
 
 pub overflow_add-count : goal.overflow_add-count
 overflow_add-count c = omega arith
@@ -29,7 +28,11 @@ pub loop-i-smaller : goal.loop-i-smaller
 loop-i-smaller c = omega arith
 
 pub loop-i-preserved : goal.loop-i-preserved
-loop-i-preserved c = ⊎_elim (λ w. counting-new c.loop-i.invariant c.loop-i-test.true c.source_key.ensures c.is_seen.ensures (not-true _ w.0.taken) w.1) (λ w. counting-known c.loop-i.invariant c.loop-i-test.true c.source_key.ensures c.is_seen.ensures (not-false _ w.0.left) w.1) c.if-not-is_seen.branch
+loop-i-preserved c =
+    elim c.if-not-is_seen.branch [
+      | then-not-is_seen w ↦ counting-new c.loop-i.invariant c.loop-i-test.true c.source_key.ensures c.is_seen.ensures w.if-not-is_seen.true w.n-is
+      | else-not-is_seen w ↦ counting-known c.loop-i.invariant c.loop-i-test.true c.source_key.ensures c.is_seen.ensures w.if-not-is_seen.false w.n-is
+    ]
 
 pub returns : goal.returns
 returns c = counting-end c.loop-i.invariant c.loop-i-test.false

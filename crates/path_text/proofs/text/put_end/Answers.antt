@@ -8,14 +8,6 @@ use Rattle.path_text.specs.Text.{unknown_word, unresolved_word, key_text}
 use Rattle.path_text.proofs.MarkerLaws.{first-room, second-room, both-put, end-root, end-unknown, end-unresolved}
 use Rattle.path_text.proofs.text.put_end.Goals as goal
 
--- UNMAPPED
-slice-aggregate-put-bytes : tie.Need-slice-aggregate-put-bytes
-slice-aggregate-put-bytes c = search rules
-
--- UNMAPPED
-slice-aggregate-put-bytes-2 : tie.Need-slice-aggregate-put-bytes-2
-slice-aggregate-put-bytes-2 c = search rules
-
 pub put_byte-requires : goal.put_byte-requires
 put_byte-requires c = omega (arith, c.requires, ap length (end-root c.in-Root.is))
 

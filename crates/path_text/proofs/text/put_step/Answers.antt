@@ -11,7 +11,7 @@ pub put_byte-to-requires : goal.put_byte-to-requires
 put_byte-to-requires c = omega (arith, c.requires.place_in_bounds, step-long c.args.journal.now c.args.image.now c.args.place)
 
 pub put_place-requires : goal.put_place-requires
-put_place-requires c = record { place_value = c.requires.place_value; place_in_bounds = (second-room c.args.text.now c.args.at (0x5C ∷ []) (place_text c.args.journal.now c.args.image.now c.args.place) (step-parts c.args.journal.now c.args.image.now c.args.place) c.put_byte-to.ensures c.requires.place_in_bounds, ) }
+put_place-requires c = record { place_value = c.requires.place_value; place_in_bounds = (second-room c.args.text.now c.args.at (0x5C ∷ []) (place_text c.args.journal.now c.args.image.now c.args.place) (step-parts c.args.journal.now c.args.image.now c.args.place) c.put_byte-to.ensures c.requires.place_in_bounds) }
 
 pub returns : goal.returns
 returns c =

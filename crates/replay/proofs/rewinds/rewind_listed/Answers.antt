@@ -4,9 +4,5 @@ use lib.ListN.{length-take}
 use borrow.Author.Rules.{rules}
 use Rattle.replay.proofs.rewinds.rewind_listed.Goals as goal
 
--- UNMAPPED
-slice-aggregate-write-count : tie.Need-slice-aggregate-write-count
-slice-aggregate-write-count c = search rules
-
 pub slice_bounds-rewind_records-end : goal.slice_bounds-rewind_records-end
 slice_bounds-rewind_records-end c = simp length-take (omega arith)

@@ -3,10 +3,6 @@ use borrow.Author.Rules.{rules}
 use Rattle.usn_answers.proofs.WindowLaws.{reading-refused, reading-end, reading-wants, reading-record}
 use Rattle.usn_answers.proofs.window.put_reading.Goals as goal
 
--- UNMAPPED
-slice-aggregate-put-row-2 : tie.Need-slice-aggregate-put-row-2
-slice-aggregate-put-row-2 c = search rules
-
 pub returns-in-Refused : goal.returns-in-Refused
 returns-in-Refused c = reading-refused _ c.in-Refused.is
 

@@ -3,9 +3,5 @@ use Rattle.usn_lines.proofs.PathLaws.{tells}
 use borrow.Author.Rules.{rules}
 use Rattle.usn_lines.proofs.next_path.step_with_text.Goals as goal
 
--- UNMAPPED
-slice-aggregate-rewind-run-4 : tie.Need-slice-aggregate-rewind-run-4
-slice-aggregate-rewind-run-4 c = search rules
-
 pub returns : goal.returns
 returns c = tells c.args.journal.now c.args.records.now c.args.forward.now c.args.rewind c.args.text.now c.rewind_run-answer.ensures c.run_or-run.ensures
