@@ -44,7 +44,7 @@ module _ (t : Table) (heads nexts : List ℕ) (some : 0 < length heads) (x : Ind
   -- an entry in the slot of its key
   pub index-over : {i : ℕ} → At i ≡ find t k → t.used ≤ slots_in t.words
       → (heads ≡ heads_of (length heads) (table (put_at t.words i k e) t.used)) × (nexts ≡ nexts_of (length heads) (table (put_at t.words i k e) t.used) nexts)
-  index-over {i} f fits = links-index nexts (links-same (put_at t.words i k e) links keys) refl
+  index-over {i} f fits = let made = links-index nexts (links-same (put_at t.words i k e) links keys) refl in (made.heads_after, made.nexts_after)
     where
       room : i * stride + stride ≤ length t.words
       room = omega (arith, find-used t k i (sym f))
@@ -63,13 +63,13 @@ module _ (t : Table) (heads nexts : List ℕ) (some : 0 < length heads) (x : Ind
       → h ≡ heads_linked heads (hash (length heads) k) last (t.used + 1) → n ≡ nexts_linked nexts last (t.used + 1)
       → (h ≡ heads_of (length heads) (table (put_at t.words t.used k e) (t.used + 1))) × (n ≡ nexts_of (length heads) (table (put_at t.words t.used k e) (t.used + 1)) nexts)
   index-more {last} d fits room p q =
-      rw (p, q)
-      (links-index nexts
+      let made = links-index nexts
       (links-more (length heads) t.words (put_at t.words t.used k e) t.used (hash (length heads) k)
       (λ j l. put-key-other t.words t.used k e j (omega arith))
       (ap (hash (length heads)) (put-key t.words t.used k e (omega arith)))
       links (hash-below (length heads) k some) (omega arith) last d)
-      (length-linked nexts last (t.used + 1)))
+      (length-linked nexts last (t.used + 1)) in
+      rw (p, q) (made.heads_after, made.nexts_after)
 
 -- the first of them with an index or with none
 pub kept-over : (t : Table) (heads nexts : List ℕ) → Indexed t heads nexts → (k : EntryKey) (e : EntryInfo) {i : ℕ} → At i ≡ find t k → t.used ≤ slots_in t.words

@@ -45,9 +45,9 @@ pub record WayText (l₀ l : List ℕ) (at to : ℕ) (rest whole : List ℕ) : T
 pub way-text-start : (l₀ : List ℕ) (at : ℕ) (front rest : List ℕ) {whole l : List ℕ} {to : ℕ} → whole ≡ front ++ rest → Put l₀ l at to front → WayText l₀ l at to rest whole
 way-text-start l₀ at front rest {whole} {l} {to} e p =
     record {
-      ends = rw (p.1, p.0, e) (sym (sets-append l₀ at front rest));
-      same = ap length p.1 ∙ length-sets l₀ at front;
-      count = omega (arith, p.0, ap length e, length-append front rest);
+      ends = rw (p.text_after, p.value, e) (sym (sets-append l₀ at front rest));
+      same = ap length p.text_after ∙ length-sets l₀ at front;
+      count = omega (arith, p.value, ap length e, length-append front rest);
     }
 
 module _ {l₀ l : List ℕ} {at to : ℕ} {rest whole : List ℕ} (w : WayText l₀ l at to rest whole) where
@@ -57,13 +57,13 @@ module _ {l₀ l : List ℕ} {at to : ℕ} {rest whole : List ℕ} (w : WayText 
   pub way-text-more : (first more : List ℕ) → rest ≡ first ++ more → {l' : List ℕ} {to' : ℕ} → Put l l' to to' first → WayText l₀ l' at to' more whole
   way-text-more first more e p =
       record {
-        ends = rw (p.1, p.0) (sym (sets-append l to first more) ∙ ap (sets l to) (sym e) ∙ w.ends);
-        same = ap length p.1 ∙ length-sets l to first ∙ w.same;
-        count = omega (arith, p.0, w.count, ap length e, length-append first more);
+        ends = rw (p.text_after, p.value) (sym (sets-append l to first more) ∙ ap (sets l to) (sym e) ∙ w.ends);
+        same = ap length p.text_after ∙ length-sets l to first ∙ w.same;
+        count = omega (arith, p.value, w.count, ap length e, length-append first more);
       }
 
-  pub way-text-end : rest ≡ [] → (to ≡ at + length whole) × (l ≡ sets l₀ at whole)
-  way-text-end e = (omega (arith, w.count, ap length e), ap (sets l to) (sym e) ∙ w.ends)
+  pub way-text-end : rest ≡ [] → Put l₀ l at to whole
+  way-text-end e = record { value = omega (arith, w.count, ap length e); text_after = ap (sets l to) (sym e) ∙ w.ends }
 
 -- a text that has no room for more is left alone, and one that has holds it
 module _ (more text : List ℕ) (at : ℕ) {fits : Bool} (e : fits ≡ leb (length more) (length text - at)) where
@@ -79,6 +79,6 @@ module _ (more text : List ℕ) (at : ℕ) {fits : Bool} (e : fits ≡ leb (leng
   behind-put h p =
       let q = le-ltb (length text - at) (length more) (leb-true _ _ (sym e ∙ h)) in
       record {
-        answer = ap To p.0 ∙ sym (ap (λ (b : Bool). cond b Full (To (at + length more))) q);
-        written = p.1 ∙ sym (ap (λ (b : Bool). cond b text (sets text at more)) q);
+        answer = ap To p.value ∙ sym (ap (λ (b : Bool). cond b Full (To (at + length more))) q);
+        written = p.text_after ∙ sym (ap (λ (b : Bool). cond b text (sets text at more)) q);
       }

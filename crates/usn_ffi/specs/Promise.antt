@@ -14,11 +14,11 @@ use Rattle.usn_ffi.specs.Scan.{scan_call, scan_words}
 use Rattle.usn_ffi.specs.Window.{new_call, next_call, give_call, give_buffer}
 
 -- a record
-abbrev pub RecordPromise : Outcome UsnRecord → Lent → ℕ → Type 0
-RecordPromise o words r = AnswerPromise record_words (after_domain 19 (length (before words)) o) words r
+abbrev pub RecordPromise : Outcome UsnRecord → MutLent → ℕ → Type 0
+RecordPromise o words r = AnswerPromise record_words (after_domain 19 (length (before_mut words)) o) words r
 
 -- the record that a slice begins with, and the one at an offset of an extract
-abbrev pub ParsePromise : Layout → Lent → Lent → ℕ → Type 0
+abbrev pub ParsePromise : Layout → Lent → MutLent → ℕ → Type 0
 ParsePromise layout slice words r = RecordPromise (parsed layout (before slice)) words r
 
 abbrev pub ListedPromise : Lent → ℕ → MutLent → ℕ → Type 0

@@ -24,12 +24,14 @@ pub build-requires : goal.build-requires
 build-requires c = (omega (arith, c.if-slots-used.false), λ h. let g = c.requires h in omega (arith, c.if-slots-used.false))
 
 pub add_carved-requires : goal.add_carved-requires
-add_carved-requires c = let (heads, nexts) = c.build.ensures in
+add_carved-requires c = let heads = c.build.ensures.heads_after in
+    let nexts = c.build.ensures.nexts_after in
     record { entries_bound = leb-true _ _ (sym c.carved_fit.ensures ∙ c.if-not-carved_fit.false); indexed = (index-again _ _ _ heads nexts, λ h. let g = c.requires (omega (arith, heads-long _ _ _ heads nexts)) in omega (arith, nexts-long _ _ _ heads nexts)) }
 
 pub returns : goal.returns
 returns c =
-    let (heads, nexts) = c.build.ensures in
+    let heads = c.build.ensures.heads_after in
+    let nexts = c.build.ensures.nexts_after in
     let a = c.add_carved.ensures in
     let all = adding-room _ _ (leb-true _ _ (sym c.carved_fit.ensures ∙ c.if-not-carved_fit.false)) in
     stores-by (stored-inside _ _ _ c.if-slots-used.false (sym c.carved_inside.ensures ∙ c.if-not-carved_inside.false) ∙ all) (rw all at a.store.answer) (rw all at a.store.slots-are) (index-then _ _ _ heads nexts all a.heads-are a.nexts-are)
