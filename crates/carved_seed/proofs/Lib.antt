@@ -3,8 +3,4 @@ pub mod EntryLaws
 pub mod NameLaws
 pub mod PairLaws
 pub mod SeedLaws
-pub mod Again
-pub mod Called
-pub mod Values
-pub mod Callees
 pub mod FlatLaws

@@ -10,7 +10,6 @@
 mod batch;
 
 ghost use Rattle.std.specs.Prelude.{◌≡◌, ◌+◌, ◌/◌, ◌^◌, ◌<◌, length};
-ghost use Rattle.base.specs.Lent.{before};
 ghost use Rattle.entry_slots.specs.Slots.{slots_in};
 ghost use Rattle.read_ahead.specs.Reading.{at_once, read_to};
 
@@ -40,7 +39,7 @@ pub fn ahead_forward(
     heads: &[u64],
     nexts: &[u64],
 ) -> usize
-    ensures { result ≡ read_to (length (before records) / 2) (slots_in (before slots)) (length (before heads)) position done }
+    ensures { result ≡ read_to (length records.now / 2) (slots_in slots.now) (length heads.now) position done }
 {
     if position < done {
         return done;
@@ -72,7 +71,7 @@ pub fn ahead_backward(
     heads: &[u64],
     nexts: &[u64],
 ) -> usize
-    ensures { result ≡ read_to (length (before records) / 2) (slots_in (before slots)) (length (before heads)) position done }
+    ensures { result ≡ read_to (length records.now / 2) (slots_in slots.now) (length heads.now) position done }
 {
     if position < done {
         return done;
@@ -97,7 +96,7 @@ pub fn ahead_backward(
 
 // How many records to read ahead for at a position.
 fn at_once(records: &[usize], slots: &[u64], heads: &[u64], position: usize) -> usize
-    ensures { result ≡ at_once (length (before records) / 2) (slots_in (before slots)) (length (before heads)) position }
+    ensures { result ≡ at_once (length records.now / 2) (slots_in slots.now) (length heads.now) position }
 {
     let count = records.len() / 2;
     if heads.len() == 0 {

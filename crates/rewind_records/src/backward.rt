@@ -1,6 +1,5 @@
 // The walk from the last record to the first: the additions to the first table, by way of an index.
 ghost use Rattle.std.specs.Prelude.{◌+◌, ◌≤◌, ◌<◌, length};
-ghost use Rattle.base.specs.Lent.{before};
 ghost use Rattle.entry_slots.specs.Slots.{slots_in};
 ghost use Rattle.entry_slots.specs.Table.{table, known};
 ghost use Rattle.entry_slots.specs.Index.{Indexed};
@@ -25,7 +24,7 @@ pub fn add_backward(
 ) -> Stored
     requires records_bound { used + new_keys (known (table slots.old used)) (keys_of (walked_back journal.now records.now)) ≤ slots_in slots.old }
     requires indexed { Indexed (table slots.old used) heads.old nexts.old × (0 < length heads.old → slots_in slots.old ≤ length nexts.old) }
-    ensures { StoreByPromise slots heads nexts (adding (table (before slots) used) (walked_back (before journal) (before records))) result }
+    ensures { StoreByPromise slots heads nexts (adding (table slots.old used) (walked_back journal.now records.now)) result }
 {
     let count = records.len() / 2;
     let mut now_used = used;

@@ -6,25 +6,25 @@ use Rattle.run_steps.proofs.run_step.Goals as goal
 pub returns-then-records-position : goal.returns-then-records-position
 returns-then-records-position c =
     let s = c.args in
-    step_end s.journal.now s.image.now s.records.now s.forward.now s.standing.rewind.used s.standing.rewind.position c.requires.0.passes s.standing.at s.heads.now s.nexts.now s.text.now c.requires.0.index c.if-records-position.true
+    step_end s.journal.now s.image.now s.records.now s.forward.now s.standing.rewind.used s.standing.rewind.position c.requires.run_asks.passes s.standing.at s.heads.now s.nexts.now s.text.now c.requires.run_asks.index c.if-records-position.true
 
 pub make_step-requires : goal.make_step-requires
 make_step-requires c =
     let s = c.args in
-    let p = tests s.journal.now s.image.now s.records.now s.forward.now s.standing.rewind.used s.standing.rewind.position c.requires.0.passes in
+    let p = tests s.journal.now s.image.now s.records.now s.forward.now s.standing.rewind.used s.standing.rewind.position c.requires.run_asks.passes in
     record {
       fits = p.fits;
-      index = c.requires.0.index;
-      wide = c.requires.0.wide;
+      index = c.requires.run_asks.index;
+      wide = c.requires.run_asks.wide;
       names = p.places;
       near-journal = p.journal;
       near-image = p.image;
-      own = own-inside s.journal.now s.image.now s.records.now s.forward.now s.standing.rewind.used s.standing.rewind.position c.requires.0.passes c.if-records-position.false c.entry_at-entry.ensures;
-      long = c.requires.1.0;
-      room = c.requires.1.1;
+      own = own-inside s.journal.now s.image.now s.records.now s.forward.now s.standing.rewind.used s.standing.rewind.position c.requires.run_asks.passes c.if-records-position.false c.entry_at-entry.ensures;
+      long = c.requires.levels_in_bounds.0;
+      room = c.requires.levels_in_bounds.1;
     }
 
 pub returns : goal.returns
 returns c =
     let s = c.args in
-    step-next s.journal.now s.image.now s.records.now s.forward.now s.standing.rewind.used s.standing.rewind.position c.requires.0.passes c.if-records-position.false c.entry_at-entry.ensures s.standing.at s.heads.now s.nexts.now s.text.now c.make_step.ensures
+    step-next s.journal.now s.image.now s.records.now s.forward.now s.standing.rewind.used s.standing.rewind.position c.requires.run_asks.passes c.if-records-position.false c.entry_at-entry.ensures s.standing.at s.heads.now s.nexts.now s.text.now c.make_step.ensures

@@ -13,7 +13,7 @@ use Rattle.rewind_records.proofs.backward.add_backward.Goals as goal
 
 pub loop-i-init : goal.loop-i-init
 loop-i-init c =
-    record { made = rows_start _ _ _ c.requires.0; heads-kept = c.requires.1.0.0; nexts-kept = c.requires.1.0.1 }
+    record { made = rows_start _ _ _ c.requires.records_bound; heads-kept = c.requires.indexed.0.0; nexts-kept = c.requires.indexed.0.1 }
 
 pub ahead_backward-read-requires : goal.ahead_backward-read-requires
 ahead_backward-read-requires c = tt
