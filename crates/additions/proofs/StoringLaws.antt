@@ -7,7 +7,7 @@ use native.Mathlib.Omega.{arith}
 use native.Mathlib.Nat.{add-zero}
 use borrow.Author.Tests.{lt-ltb, le-ltb}
 use lib.Dec.{ltb}
-use Rattle.base.specs.Outcome.{Outcome, refused, answered}
+use Rattle.base.specs.Outcome.{refused, answered}
 use Rattle.base.specs.Refusals.{bad_state, name_outside, table_full}
 use Rattle.entry_slots.specs.Names.{Lengths, all_inside}
 use Rattle.entry_slots.specs.Slots.{slots_in, put_at}

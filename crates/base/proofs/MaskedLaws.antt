@@ -1,6 +1,6 @@
 -- Two runs of one walk over byte lists that differ in places alone: where each visit comes out the same as long as the lists agree from its
 -- offset on outside the places of what is found from there on, the walks are the same. Assumes nothing.
-use Prim.Native.Nat.{ℕ, zero, suc, ◌+◌, ◌-◌, ◌≤◌, ◌<◌}
+use Prim.Native.Nat.{ℕ, zero, suc, ◌+◌, ◌-◌, ◌≤◌}
 use mathlib.Core.Path.{◌≡◌, refl, sym, ap, ◌∙◌}
 use mathlib.Core.List.{List, [], ◌∷◌, ◌++◌}
 use native.Mathlib.Omega.{arith}
@@ -11,7 +11,7 @@ use lib.Dec.{ltb}
 use borrow.Author.Tests.{ltb-true, ltb-false}
 use Rattle.base.specs.Lists.{All}
 use Rattle.base.specs.Walk.{Visit, stop, go, going_on, walk}
-use Rattle.base.specs.Masked.{Within, Apart, Masked, places_of}
+use Rattle.base.specs.Masked.{Apart, Masked, places_of}
 use Rattle.base.specs.declared.Place.{Place}
 use Rattle.base.proofs.WalkLaws.{Finds, all_append}
 

@@ -1,5 +1,5 @@
 -- The table as a map from keys to entries: lookups and additions. Of equal keys the lowest slot counts.
-use Rattle.std.specs.Prelude.{ℕ, ◌+◌, List, [], ◌∷◌, Bool, true, false, cond}
+use Rattle.std.specs.Prelude.{ℕ, ◌+◌, List, Bool, true, false, cond}
 use Rattle.entry_slots.specs.Slots.{find_from, info_at, put_at}
 use Rattle.entry_slots.specs.declared.EntryKey.{EntryKey}
 use Rattle.entry_slots.specs.declared.EntryInfo.{EntryInfo}

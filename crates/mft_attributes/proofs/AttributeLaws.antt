@@ -3,18 +3,18 @@ use Prim.Native.Nat.{ℕ, zero, suc, ◌+◌, ◌*◌, ◌^◌, ◌≤◌, ◌<�
 use native.Mathlib.Nat.{add-zero}
 use mathlib.Core.Path.{◌≡◌, refl, ap, sym, ◌∙◌}
 use mathlib.Core.List.{List, [], ◌∷◌}
-use mathlib.Core.Bool.{Bool, true, false, ◌&&◌, ◌||◌}
+use mathlib.Core.Bool.{true, ◌&&◌}
 use native.Mathlib.Omega.{arith}
 use lib.ListN.{length}
-use lib.Dec.{ltb, leb, eqb}
-use borrow.Author.Tests.{lt-ltb, le-ltb, ltb-true, ltb-false, le-leb, lt-leb, leb-true, ne_eqb, eq-eqb}
+use lib.Dec.{ltb, leb}
+use borrow.Author.Tests.{lt-ltb, le-ltb, le-leb, lt-leb, ne_eqb}
 use Rattle.base.specs.Walk.{Visit, stop, go}
 use Rattle.base.proofs.ChoiceLaws.{and-false}
 use Rattle.usn_record.specs.Bytes.{le_at}
 use Rattle.usn_record.specs.Fields.{reference_of}
 use Rattle.usn_record.specs.declared.fields.Reference.{Reference}
 use Rattle.mft_attributes.specs.Filename.{Attribute, other, named}
-use Rattle.mft_attributes.specs.Attributes.{file_name, end_marker, fixed, AttributeHeader, attribute_header_at, Content, content_at, is_filename, content_filename, given, attribute_at, attribute_visit}
+use Rattle.mft_attributes.specs.Attributes.{file_name, end_marker, fixed, attribute_header_at, Content, content_at, content_filename, given, attribute_at, attribute_visit}
 use Rattle.mft_attributes.specs.Step.{filename_at}
 use Rattle.mft_attributes.specs.declared.filename.Filename.{Filename}
 

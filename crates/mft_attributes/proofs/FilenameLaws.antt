@@ -1,15 +1,15 @@
 -- Which name is kept, by the namespaces, and the walk over the attributes: what is kept so far, with the attributes left, is what is kept at
 -- the end. Assumes nothing.
 use Prim.Native.Nat.{ℕ, zero, suc, ◌-◌, ◌≤◌, ◌<◌}
-use mathlib.Core.Path.{◌≡◌, refl, ap, sym, ◌∙◌}
-use mathlib.Core.List.{List, [], ◌∷◌}
+use mathlib.Core.Path.{◌≡◌, ap, sym, ◌∙◌}
+use mathlib.Core.List.{List}
 use mathlib.Core.Bool.{Bool, true, false, not}
 use native.Mathlib.Omega.{arith}
 use lib.ListN.{length}
 use lib.Dec.{eqb}
 use borrow.Author.Tests.{ne_eqb, lt-ltb, le-ltb}
 use Rattle.base.specs.Walk.{Visit, going_on, walk}
-use Rattle.mft_attributes.specs.Filename.{win32, dos, win32_and_dos, replaces, Attribute, other, named, keep, keep_all}
+use Rattle.mft_attributes.specs.Filename.{win32, dos, win32_and_dos, replaces, Attribute, keep, keep_all}
 use Rattle.mft_attributes.specs.Attributes.{content_at, attribute_visit, attributes_in, filename_in}
 use Rattle.mft_attributes.specs.Step.{attribute_of, filename_at, kept_at}
 use Rattle.mft_attributes.specs.declared.attributes.AttributeStep.{AttributeStep}

@@ -2,18 +2,18 @@
 --
 -- A name's length is a byte before the name. Where the content that it stands in passes its attribute, that byte may lie in the name of
 -- another attribute; but then no name could end inside the attribute, whatever the byte says.
-use Prim.Native.Nat.{ℕ, zero, suc, ◌+◌, ◌*◌, ◌-◌, ◌≤◌, ◌<◌}
+use Prim.Native.Nat.{ℕ, suc, ◌+◌, ◌≤◌, ◌<◌}
 use mathlib.Core.Path.{◌≡◌, refl, ap, sym, ◌∙◌}
-use mathlib.Core.List.{List, [], ◌∷◌, ◌++◌}
-use mathlib.Core.Bool.{Bool, true, false, cond, ◌||◌}
+use mathlib.Core.List.{List, [], ◌∷◌}
+use mathlib.Core.Bool.{Bool, true, false, ◌||◌}
 use native.Mathlib.Omega.{arith}
 use lib.ListN.{length, get_or}
 use lib.Dec.{ltb, leb, eqb}
 use borrow.Author.Tests.{leb-true, leb-false}
 use Rattle.base.specs.Lists.{All}
 use Rattle.base.specs.Agree.{Agree}
-use Rattle.base.specs.Masked.{Within, Apart, places_of}
-use Rattle.base.specs.Walk.{Visit, stop, go, going_on, walk}
+use Rattle.base.specs.Masked.{Apart, places_of}
+use Rattle.base.specs.Walk.{Visit, go, going_on, walk}
 use Rattle.base.specs.declared.Place.{Place}
 use Rattle.base.proofs.ChoiceLaws.{cond_cases, cond-two}
 use Rattle.base.proofs.MaskedLaws.{apart-append, apart-all, Same, Before, walk_same}
@@ -21,12 +21,12 @@ use Rattle.base.proofs.WalkLaws.{Forward}
 use Rattle.usn_record.specs.Bytes.{le_at}
 use Rattle.usn_record.proofs.ByteLaws.{read-agree}
 use Rattle.mft_attributes.specs.Filename.{replaces, Attribute, other, named, keep, keep_all}
-use Rattle.mft_attributes.specs.Attributes.{end_marker, fixed, AttributeHeader, attribute_header_at, Content, content_at, is_filename, given, attribute_at, attribute_visit, attributes_in, filename_in}
+use Rattle.mft_attributes.specs.Attributes.{end_marker, fixed, attribute_header_at, content_at, is_filename, given, attribute_at, attribute_visit, attributes_in, filename_in}
 use Rattle.mft_attributes.specs.declared.filename.Filename.{Filename}
 use Rattle.mft_attributes.specs.declared.filename.Kept.{Kept}
 use Rattle.mft_attributes.specs.declared.filename.Kept.TheVariants.{Nothing, Name}
 use Rattle.mft_attributes.proofs.AttributeLaws.{given-past}
-use Rattle.mft_attributes.proofs.LieLaws.{FilenameLies, NameLies, given-lies, AttributeShape, ends, passes, visit-shape, visit-forward, attributes-lie}
+use Rattle.mft_attributes.proofs.LieLaws.{NameLies, given-lies, AttributeShape, ends, passes, visit-shape, visit-forward, attributes-lie}
 
 -- the name of an attribute, and the one that is kept
 abbrev pub name_of : Attribute → List Place

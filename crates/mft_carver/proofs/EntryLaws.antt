@@ -1,8 +1,8 @@
 -- One entry: the ways out of its tests, each with what they say. Assumes nothing.
-use Prim.Native.Nat.{ℕ, zero, ◌+◌, ◌/◌, ◌%◌, ◌≤◌, ◌<◌}
-use mathlib.Core.Path.{◌≡◌, refl, ap, sym, ◌∙◌}
-use mathlib.Core.List.{List, [], ◌∷◌}
-use mathlib.Core.Bool.{Bool, true, false, cond, not, ◌&&◌}
+use Prim.Native.Nat.{ℕ, ◌+◌, ◌/◌, ◌%◌, ◌≤◌, ◌<◌}
+use mathlib.Core.Path.{◌≡◌, ap, sym, ◌∙◌}
+use mathlib.Core.List.{List}
+use mathlib.Core.Bool.{Bool, true, false, cond, not}
 use native.Mathlib.Omega.{arith}
 use lib.ListN.{length, get_or}
 use lib.Dec.{eqb}
@@ -13,7 +13,7 @@ use Rattle.usn_record.specs.Bytes.{le_at}
 use Rattle.mft_carver.specs.declared.Settings.{Settings}
 use Rattle.mft_attributes.specs.Attributes.{fixed, filename_in}
 use Rattle.mft_sectors.specs.SectorEnds.{array_of, sound, home, restored_by}
-use Rattle.mft_carver.specs.Entry.{entry_header_of, bad_header, entry_of, Event, rejected, carved, by_name, judged}
+use Rattle.mft_carver.specs.Entry.{entry_header_of, bad_header, entry_of, rejected, carved, by_name, judged}
 use Rattle.mft_carver.specs.declared.CarvedMftEntry.{CarvedMftEntry}
 use Rattle.mft_attributes.specs.declared.filename.Filename.{Filename}
 use Rattle.mft_attributes.specs.declared.filename.Kept.{Kept}

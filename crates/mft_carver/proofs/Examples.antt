@@ -10,21 +10,19 @@ use Rattle.base.specs.Masked.{Masked}
 use Rattle.base.specs.Outcome.{answered}
 use Rattle.base.specs.Places.{part}
 use Rattle.base.specs.Walk.{walk, from}
-use Rattle.base.specs.declared.Place.{Place}
 use Rattle.base.proofs.MaskedLaws.{masked-middle}
 use Rattle.base.proofs.RowLaws.{masked-bytes}
 use Rattle.usn_record.specs.Bytes.{le, le_at, le_bytes}
 use Rattle.usn_record.specs.Fields.{reference_of}
 use Rattle.mft_carver.specs.Settings.{standard}
 use Rattle.mft_attributes.specs.Filename.{replaces, keep}
-use Rattle.mft_attributes.specs.Attributes.{file_name, given, attribute_at, attribute_visit, filename_in}
-use Rattle.mft_sectors.specs.Homes.{byte_at}
+use Rattle.mft_attributes.specs.Attributes.{given, attribute_at, attribute_visit, filename_in}
 use Rattle.mft_sectors.specs.Signature.{has_signature}
 use Rattle.mft_sectors.specs.SectorEnds.{ending, sound, home, restored_by, restored}
 use Rattle.mft_carver.specs.Entry.{judged}
 use Rattle.mft_carver.specs.Carve.{image_visit, stats_of, stats_in, carving}
 use Rattle.mft_carver.specs.Masking.{carved_homes}
-use Rattle.mft_carver.specs.Sample.{sample_entry_header, before_name, abc, name_attribute, others, last, sample_array, sample, before_unit, behind_unit, across}
+use Rattle.mft_carver.specs.Sample.{abc, name_attribute, others, sample, before_unit, behind_unit, across}
 use Rattle.mft_carver.proofs.HomeExamples.{front, back, image, xbc, homes-abc, across-homes}
 use Rattle.mft_carver.proofs.ImageTwoRuns.{SameCarving, call-two-runs}
 

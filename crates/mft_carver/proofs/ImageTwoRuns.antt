@@ -3,17 +3,17 @@
 use Prim.Native.Nat.{ℕ, zero, suc, ◌+◌, ◌-◌, ◌%◌, ◌≤◌, ◌<◌}
 use mathlib.Core.Path.{◌≡◌, refl, ap, sym, ◌∙◌}
 use mathlib.Core.List.{List, [], ◌∷◌, ◌++◌}
-use mathlib.Core.Bool.{Bool, true, false, cond}
+use mathlib.Core.Bool.{Bool, true, false}
 use native.Mathlib.Omega.{arith}
 use lib.ListN.{length, get_or, length-take, length-drop}
 use lib.Seq.{ext_get_or}
 use lib.Dec.{ltb}
 use borrow.Author.Tests.{ltb-true, ltb-false}
 use Rattle.base.specs.Agree.{Agree}
-use Rattle.base.specs.Masked.{Within, Apart, Masked, places_of}
+use Rattle.base.specs.Masked.{Apart, Masked, places_of}
 use Rattle.base.specs.Outcome.{Outcome, refused, answered, listed_by}
-use Rattle.base.specs.Places.{part, place_from}
-use Rattle.base.specs.Walk.{Visit, stop, go, going_on, walk, from}
+use Rattle.base.specs.Places.{place_from}
+use Rattle.base.specs.Walk.{Visit, go, going_on, walk, from}
 use Rattle.base.specs.declared.Place.{Place}
 use Rattle.base.proofs.AgreeLaws.{part_in, part_out, part_length}
 use Rattle.base.proofs.ChoiceLaws.{cond_cases, cond-two}
@@ -29,19 +29,17 @@ use Rattle.mft_sectors.specs.Signature.{has_signature}
 use Rattle.mft_carver.specs.Entry.{entry_header_of, bad_header, entry_of, Event, rejected, carved, by_name, judged}
 use Rattle.mft_carver.specs.Carve.{entry_bytes, events_at, image_visit, events, entries, entries_in, carving, carving_list}
 use Rattle.mft_carver.specs.Masking.{carved_entries, homes_of, carved_homes}
-use Rattle.mft_carver.specs.declared.CarvedMftEntry.{CarvedMftEntry}
 use Rattle.mft_carver.specs.declared.MftCarvingStats.{MftCarvingStats}
 use Rattle.mft_attributes.specs.declared.filename.Filename.{Filename}
 use Rattle.mft_attributes.specs.declared.filename.Kept.{Kept}
 use Rattle.mft_attributes.specs.declared.filename.Kept.TheVariants.{Nothing, Name}
 use Rattle.mft_carver.proofs.CallLaws.{outcome-agrees}
-use Rattle.mft_carver.proofs.HomeExamples.{across-homes}
 use Rattle.mft_carver.proofs.RunLaws.{visit-forward}
 use Rattle.mft_sectors.proofs.SignatureLaws.{signature-same}
-use Rattle.mft_sectors.proofs.SectorLaws.{Sound, sound-says, length-restored}
+use Rattle.mft_sectors.proofs.SectorLaws.{sound-says, length-restored}
 use Rattle.mft_attributes.proofs.LieLaws.{FilenameLies, found-lies}
-use Rattle.mft_sectors.proofs.HomeLaws.{Home, home-lies, homes-apart, same-front, same-sound, same-restored}
-use Rattle.mft_attributes.proofs.TwoRunLaws.{kept_name, filename-two-runs}
+use Rattle.mft_sectors.proofs.HomeLaws.{home-lies, homes-apart, same-front, same-sound, same-restored}
+use Rattle.mft_attributes.proofs.TwoRunLaws.{filename-two-runs}
 
 -- what may stand at o, with the entry e there: nothing that has a name, or a carved entry, and then its tests passed
 pub data Found (st : Settings) (o : ℕ) (e : List ℕ) : List Event → Type 0 where

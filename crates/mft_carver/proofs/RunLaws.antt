@@ -7,15 +7,15 @@ use native.Mathlib.Omega.{arith}
 use native.Mathlib.Nat.{le-div_iff_mul-le, mul_comm, mul-zero, mul-one, zero-add}
 use lib.ListN.{length, take, drop}
 use lib.Dec.{ltb}
-use borrow.Author.Tests.{lt-ltb, le-ltb, ltb-true, ltb-false}
-use Rattle.base.specs.Walk.{Visit, stop, go, from}
+use borrow.Author.Tests.{lt-ltb, le-ltb, ltb-false}
+use Rattle.base.specs.Walk.{stop, go, from}
 use Rattle.base.proofs.AgreeLaws.{part-lent}
 use Rattle.base.proofs.ChoiceLaws.{cond_cases}
 use Rattle.base.proofs.WalkLaws.{Forward, Costs, walk-bound, Left, left}
 use Rattle.mft_carver.specs.declared.Settings.{Settings}
 use Rattle.mft_sectors.specs.Signature.{has_signature}
 use Rattle.mft_carver.specs.Entry.{Event, rejected, carved, judged}
-use Rattle.mft_carver.specs.Carve.{entry_bytes, events_at, image_visit, events, entries, rejections, entries_in}
+use Rattle.mft_carver.specs.Carve.{entry_bytes, image_visit, events, entries, rejections, entries_in}
 use Rattle.mft_carver.specs.Step.{event_of, image_visit_of}
 use Rattle.mft_carver.specs.declared.entry.Candidate.{Candidate}
 use Rattle.mft_carver.specs.declared.step.CarveStep.{CarveStep}

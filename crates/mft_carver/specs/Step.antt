@@ -1,5 +1,5 @@
 -- What the answers of the inner functions say.
-use Rattle.std.specs.Prelude.{ℕ, List, [], ◌∷◌}
+use Rattle.std.specs.Prelude.{ℕ, [], ◌∷◌}
 use Rattle.base.specs.Walk.{Visit, stop, go}
 use Rattle.mft_carver.specs.Entry.{Event, rejected, carved}
 use Rattle.mft_carver.specs.declared.entry.Candidate.{Candidate}

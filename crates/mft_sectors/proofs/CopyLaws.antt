@@ -1,6 +1,6 @@
 -- A loop that copies bytes of a restored entry: what it copied, with what is still to be copied, is all of them. Assumes nothing.
 use Prim.Native.Nat.{ℕ, ◌+◌, ◌-◌, ◌≤◌, ◌<◌}
-use mathlib.Core.Path.{◌≡◌, refl, ap, sym, ◌∙◌}
+use mathlib.Core.Path.{◌≡◌, sym, ◌∙◌}
 use mathlib.Core.List.{List}
 use mathlib.Core.Bool.{true}
 use native.Mathlib.Omega.{arith}
@@ -12,8 +12,8 @@ use Rattle.base.specs.declared.Place.{Place}
 use Rattle.base.proofs.AgreeLaws.{part_in, part_length, part-lent}
 use Rattle.base.proofs.ListLaws.{Copying, copying-start, copying-word, copying-end, sets-front}
 use Rattle.usn_record.specs.Bytes.{le_at}
-use Rattle.mft_sectors.specs.SectorEnds.{array_of, restored_by, restored}
-use Rattle.mft_sectors.specs.Stored.{entry_start, entry_around, in_entry, image_bytes}
+use Rattle.mft_sectors.specs.SectorEnds.{restored_by}
+use Rattle.mft_sectors.specs.Stored.{entry_start, in_entry, image_bytes}
 use Rattle.mft_sectors.proofs.SectorLaws.{byte-is, length-restored}
 use Rattle.mft_sectors.proofs.StoredLaws.{from-entry, ends-in}
 

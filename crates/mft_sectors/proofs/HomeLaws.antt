@@ -1,9 +1,9 @@
 -- The homes of the bytes of an entry with a sound array, from its first attribute on: where they lie, that no two bytes share one, and what two
 -- entries have in common that differ in the homes of a name alone. Assumes nothing.
 use Prim.Native.Nat.{ℕ, zero, suc, ◌+◌, ◌-◌, ◌*◌, ◌/◌, ◌%◌, ◌≤◌, ◌<◌}
-use mathlib.Core.Path.{◌≡◌, refl, ap, sym, ◌∙◌}
-use mathlib.Core.List.{List, [], ◌∷◌}
-use mathlib.Core.Bool.{Bool, true, false, cond}
+use mathlib.Core.Path.{◌≡◌, refl, sym, ◌∙◌}
+use mathlib.Core.List.{List}
+use mathlib.Core.Bool.{Bool, true, false}
 use native.Mathlib.Omega.{arith}
 use lib.ListN.{length, get_or, get_or-eq_default}
 use lib.Dec.{ltb, eqb}
@@ -11,7 +11,7 @@ use borrow.Author.Tests.{ltb-true, ltb-false}
 use Rattle.base.specs.Agree.{Agree}
 use Rattle.base.specs.Lists.{rows}
 use Rattle.base.specs.Masked.{Within, Apart}
-use Rattle.base.specs.Places.{empty_place, place_from}
+use Rattle.base.specs.Places.{place_from}
 use Rattle.base.specs.declared.Place.{Place}
 use Rattle.base.proofs.ChoiceLaws.{cond_cases}
 use Rattle.base.proofs.RowLaws.{apart-rows}

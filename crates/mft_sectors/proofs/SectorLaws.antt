@@ -2,7 +2,7 @@
 use Prim.Native.Nat.{ℕ, zero, suc, ◌+◌, ◌-◌, ◌*◌, ◌/◌, ◌%◌, ◌≤◌, ◌<◌}
 use mathlib.Core.Path.{◌≡◌, refl, ap, sym, ◌∙◌}
 use mathlib.Core.List.{List}
-use mathlib.Core.Bool.{Bool, true, false, cond, ◌&&◌}
+use mathlib.Core.Bool.{Bool, true, false, ◌&&◌}
 use native.Mathlib.Omega.{arith}
 use native.Mathlib.Nat.{zero-add}
 use lib.ListN.{length, get_or, get_or-eq_default}
@@ -10,12 +10,11 @@ use lib.Seq.{ext_get_or}
 use lib.Dec.{ltb, leb, eqb}
 use borrow.Author.Tests.{ltb-true, ltb-false, leb-true, eqb-true, lt-ltb, le-ltb, le-leb, lt-leb, eq-eqb, ne_eqb}
 use Rattle.base.specs.Agree.{Agree}
-use Rattle.base.specs.Lists.{rows}
-use Rattle.base.proofs.ChoiceLaws.{cond_cases, and_left, and_right, and-false}
+use Rattle.base.proofs.ChoiceLaws.{and_left, and_right, and-false}
 use Rattle.base.proofs.RowLaws.{length-rows, rows_at}
 use Rattle.usn_record.specs.Bytes.{le_at}
 use Rattle.usn_record.proofs.ByteLaws.{read-agree, read_byte, read_past}
-use Rattle.mft_sectors.specs.SectorEnds.{sector, body, array_of, ending, sound, home, restored_by, restored}
+use Rattle.mft_sectors.specs.SectorEnds.{sector, body, array_of, ending, sound, home, restored_by}
 
 -- what a sound array says
 pub record Sound (e : List ℕ) : Type 0 where

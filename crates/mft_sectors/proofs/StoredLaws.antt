@@ -2,24 +2,21 @@
 -- end is read as it is, and that a byte which is restored is the image's at its home. Assumes nothing.
 use Prim.Native.Nat.{ℕ, zero, suc, ◌+◌, ◌-◌, ◌*◌, ◌/◌, ◌%◌, ◌≤◌, ◌<◌}
 use mathlib.Core.Path.{◌≡◌, refl, ap, sym, ◌∙◌}
-use mathlib.Core.List.{List, [], ◌∷◌}
-use mathlib.Core.Bool.{Bool, true, false, cond, not, ◌&&◌}
+use mathlib.Core.List.{List}
+use mathlib.Core.Bool.{Bool, true, false, not, ◌&&◌}
 use native.Mathlib.Omega.{arith}
-use native.Mathlib.Nat.{div-mul-le_self, zero-add, suc-mul, zero-mul}
-use lib.ListN.{length, get_or, set, take, drop, get_or-eq_default}
+use native.Mathlib.Nat.{div-mul-le_self, suc-mul, zero-mul}
+use lib.ListN.{length, get_or, take, drop, get_or-eq_default}
 use lib.Dec.{ltb, leb}
 use borrow.Author.Tests.{ltb-true, ltb-false, leb-true, le-leb, lt-leb, not-true, not-false}
-use Rattle.base.specs.Lists.{overwrite}
 use Rattle.base.specs.Places.{part}
 use Rattle.base.specs.declared.Place.{Place}
 use Rattle.base.proofs.AgreeLaws.{part_in, part_out, part_length, part-lent, part_same}
 use Rattle.base.proofs.ChoiceLaws.{cond_cases, and_left, and_right}
-use Rattle.base.proofs.ListLaws.{Copying, copying-start, copying-word, copying-end, sets-front}
-use Rattle.usn_record.specs.Bytes.{le_at}
 use Rattle.mft_sectors.specs.Signature.{has_signature}
 use Rattle.mft_sectors.specs.SectorEnds.{sector, body, array_of, sound, home, restored_by, restored}
 use Rattle.mft_sectors.specs.Stored.{entry_start, entry_around, in_entry, image_bytes}
-use Rattle.mft_sectors.proofs.SectorLaws.{Sound, sound-says, byte-is, home-body, length-restored, restored_at, home-inside}
+use Rattle.mft_sectors.proofs.SectorLaws.{sound-says, home-body, length-restored, restored_at, home-inside}
 
 -- the entry begins at or before the place
 pub start-before : (size i : ℕ) → entry_start size i ≤ i

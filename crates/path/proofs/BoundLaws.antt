@@ -1,14 +1,13 @@
 -- The names of a way, from its last slot on: their text, the bytes of it, and the most that these can be. Assumes nothing.
 use Prim.Native.Nat.{ℕ, zero, suc, ◌+◌, ◌-◌, ◌*◌, ◌/◌, ◌≤◌, ◌<◌}
 use mathlib.Core.Path.{◌≡◌, refl, ap, sym, ◌∙◌}
-use mathlib.Core.List.{List, [], ◌∷◌, ◌++◌}
+use mathlib.Core.List.{List, [], ◌++◌}
 use mathlib.Core.Bool.{Bool, true, false}
 use native.Mathlib.Omega.{arith}
 use borrow.Author.Tests.{le-leb, lt-leb, leb-true, leb-false, eqb-true, eqb-false}
 use lib.ListN.{length, length-append, get_or}
 use lib.Dec.{leb, eqb}
 use Rattle.utf16.proofs.TextLaws.{name-most}
-use Rattle.base.specs.Refusals.{domain}
 use Rattle.entry_slots.specs.Names.{lengths_of, inside}
 use Rattle.entry_slots.specs.Slots.{slot_name}
 use Rattle.entry_slots.specs.declared.NamePlace.{NamePlace}

@@ -25,7 +25,6 @@ use Rattle.entry_slots.specs.declared.NamePlace.{NamePlace}
 use Rattle.entry_slots.specs.declared.slots.Found.TheVariants.{At}
 use Rattle.entry_slots.proofs.FindLaws.{other-entry, same_self}
 use Rattle.chain.specs.declared.ChainEnd.TheVariants.{Root, Unresolved}
-use Rattle.chain.specs.Settings.{depth}
 use Rattle.chain.specs.Chain.{Chain, bare, under, is_root, chain}
 use Rattle.chain.proofs.CallLaws.{traced}
 use Rattle.chain.proofs.PlaceLaws.{flatten-more}

@@ -1,12 +1,11 @@
 -- Zero words change nothing of a walk: a word of 8 zero bytes begins with four, which move on 8. Assumes nothing.
-use Prim.Native.Nat.{ℕ, ◌+◌, ◌≤◌}
+use Prim.Native.Nat.{ℕ, ◌+◌}
 use mathlib.Core.Path.{◌≡◌, refl, sym}
 use mathlib.Core.List.{List, []}
 use native.Mathlib.Omega.{arith}
 use lib.ListN.{length}
 use Rattle.base.specs.Walk.{go}
 use Rattle.base.proofs.WalkLaws.{left}
-use Rattle.usn_record.specs.Bytes.{le_at}
 use Rattle.usn_record.specs.Zeros.{PastZeros}
 use Rattle.usn_record.proofs.ZeroLaws.{zeros-passed}
 use Rattle.usn_carver.specs.Settings.{Settings}

@@ -1,5 +1,5 @@
 -- What the answers of the inner functions say.
-use Rattle.std.specs.Prelude.{ℕ, List, [], ◌∷◌, false}
+use Rattle.std.specs.Prelude.{ℕ, [], ◌∷◌, false}
 use Rattle.base.specs.Walk.{Visit, stop, go}
 use Rattle.usn_record.specs.Layout.{Layout, layout_at}
 use Rattle.usn_carver.specs.Events.{Event, structure, time, rejected, carved}

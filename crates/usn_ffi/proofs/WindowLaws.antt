@@ -18,11 +18,11 @@ use Rattle.usn_window.specs.Calls.{next_of, give_of, give_refusal, buffer_after}
 use Rattle.usn_window.specs.declared.UsnJournalReader.{UsnJournalReader}
 use Rattle.usn_window.specs.declared.Answer.TheVariants.{End, Refused}
 use Rattle.usn_window.specs.declared.Reading.{Reading}
-use Rattle.usn_answers.specs.Window.{reader_words, reader_of, answer_words, window_words, reading_words, reading_outcome}
+use Rattle.usn_answers.specs.Window.{reader_words, reader_of, answer_words, reading_words, reading_outcome}
 use Rattle.usn_answers.proofs.WindowLaws.{ReadingOut, out-refused}
 use Rattle.usn_ffi.proofs.DomainLaws.{next-domain, give-domain}
 use Rattle.usn_ffi.specs.Promise.{Gives}
-use Rattle.usn_ffi.specs.Window.{on_window, new_call, next_call, give_call, give_buffer}
+use Rattle.usn_ffi.specs.Window.{on_window, new_call, next_call, give_call}
 
 -- a new window
 module _ (total : ℕ) (l : List ℕ) where

@@ -1,17 +1,17 @@
 -- Laws of little-endian reads, for any width: halves, bounds, reads of a part, and reads of two lists that agree. Assumes nothing.
 use Prim.Native.Nat.{ℕ, zero, suc, ◌+◌, ◌*◌, ◌^◌, ◌≤◌, ◌<◌}
-use mathlib.Core.Path.{◌≡◌, refl, sym, ap, ◌∙◌}
+use mathlib.Core.Path.{◌≡◌, refl, sym, ◌∙◌}
 use mathlib.Core.List.{List}
 use native.Mathlib.Nat.{add-zero, add-suc, add_assoc, zero-mul, add-mul, mul_assoc, mul_comm, pow-succ', mul-le-mul_right}
 use native.Mathlib.Omega.{arith}
 use borrow.Author.Tests.{le-leb, lt-leb}
-use lib.ListN.{length, get_or, take, drop}
+use lib.ListN.{length, get_or}
 use lib.Dec.{leb, lit<}
 use lib.Pow.{pow-add}
 use Rattle.base.specs.Places.{part}
 use Rattle.base.specs.Agree.{Agree}
 use Rattle.base.proofs.ChoiceLaws.{cond_cases}
-use Rattle.base.proofs.AgreeLaws.{agree-in, part_in, part_length}
+use Rattle.base.proofs.AgreeLaws.{part_in, part_length}
 use Rattle.usn_record.specs.Bytes.{le, le_at}
 
 -- w bytes and v more

@@ -8,9 +8,8 @@ use native.Mathlib.Omega.{arith}
 use lib.ListN.{length}
 use lib.Dec.{ltb}
 use borrow.Author.Tests.{ltb-false}
-use Rattle.base.specs.Places.{empty_place}
 use Rattle.base.specs.declared.Place.{Place}
-use Rattle.base.proofs.ChoiceLaws.{cond_cases, or_left, or_right}
+use Rattle.base.proofs.ChoiceLaws.{cond_cases, or_right}
 use Rattle.usn_record.specs.Bytes.{le_at}
 use Rattle.usn_record.specs.Fields.{reference_of, filename_of}
 use Rattle.usn_record.specs.declared.fields.Reference.{Reference}

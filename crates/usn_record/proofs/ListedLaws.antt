@@ -1,6 +1,6 @@
 -- The record at an offset: a whole one is listed, the same bytes elsewhere hold the same record, and what is read of it is its fixed part
 -- where it is accepted and its first 8 bytes where it is not. Assumes nothing.
-use Prim.Native.Nat.{ℕ, ◌+◌, ◌*◌, ◌/◌, ◌≤◌, ◌<◌}
+use Prim.Native.Nat.{ℕ, ◌+◌, ◌*◌, ◌/◌, ◌≤◌}
 use mathlib.Core.Path.{◌≡◌, refl, sym, ap, ◌∙◌}
 use mathlib.Core.List.{List, [], ◌∷◌}
 use mathlib.Core.Logic.{◌⊎◌, inl, inr}
@@ -22,7 +22,7 @@ use Rattle.usn_record.specs.Record.{max_record, record_of, parsed, as_listed, li
 use Rattle.usn_record.specs.Names.{fixed_of, name_past, name_at}
 use Rattle.usn_record.specs.declared.UsnRecord.{UsnRecord}
 use Rattle.usn_record.proofs.ByteLaws.{read-part, read-agree}
-use Rattle.usn_record.proofs.RecordLaws.{Accepts, accepts, FieldsInside, v2-inside, v3-inside, part-accepted, major-of}
+use Rattle.usn_record.proofs.RecordLaws.{accepts, FieldsInside, v2-inside, v3-inside, part-accepted, major-of}
 use Rattle.usn_record.proofs.NameLaws.{fixed-low, listed-agrees}
 
 -- a record of version 2 or 3 stands at o: n bytes, as its length field says, from its fixed part to the largest, and they end inside

@@ -2,17 +2,16 @@
 -- Assumes nothing.
 use Prim.Native.Nat.{ℕ, ◌+◌, ◌≤◌, ◌<◌}
 use mathlib.Core.Path.{◌≡◌, refl, sym, ap, ◌∙◌}
-use mathlib.Core.List.{List, [], ◌∷◌}
-use mathlib.Core.Bool.{Bool, true, false, cond}
+use mathlib.Core.List.{List}
+use mathlib.Core.Bool.{false}
 use native.Mathlib.Omega.{arith}
 use lib.ListN.{length, length-take}
 use lib.Dec.{ltb, eqb}
-use borrow.Author.Tests.{ltb-true, ltb-false, eqb-true, eqb-false, eq-eqb, ne_eqb}
+use borrow.Author.Tests.{ltb-false, eqb-true}
 use Rattle.base.specs.Outcome.{Outcome, refused, answered}
-use Rattle.base.specs.Places.{part, empty_place, place_from}
+use Rattle.base.specs.Places.{part, place_from}
 use Rattle.base.specs.Agree.{Agree}
 use Rattle.base.specs.Masked.{Within, Apart}
-use Rattle.base.specs.Refusals.{not_a_record}
 use Rattle.base.specs.declared.Place.{Place}
 use Rattle.base.proofs.ChoiceLaws.{cond_cases, cond-two}
 use Rattle.base.proofs.AgreeLaws.{agree-in}

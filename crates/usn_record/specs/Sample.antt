@@ -1,5 +1,5 @@
 -- A sample record, for worked examples.
-use Rattle.std.specs.Prelude.{ℕ, ◌+◌, ◌*◌, ◌^◌, List, [], ◌∷◌, ◌++◌, pos, length}
+use Rattle.std.specs.Prelude.{ℕ, ◌+◌, ◌*◌, ◌^◌, List, ◌++◌, pos}
 use Rattle.usn_record.specs.Bytes.{le_bytes}
 use Rattle.usn_record.specs.declared.UsnRecord.{UsnRecord}
 

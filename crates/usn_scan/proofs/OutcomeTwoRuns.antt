@@ -1,7 +1,7 @@
 -- Two runs of the whole call: an accepted one by the two runs of its list; a refused one lists nothing, so that nothing differs. Assumes nothing.
 use Prim.Native.Nat.{ℕ, ◌/◌}
 use mathlib.Core.Path.{◌≡◌, refl, ap, ◌∙◌}
-use mathlib.Core.List.{List, []}
+use mathlib.Core.List.{List}
 use lib.ListN.{length}
 use lib.Dec.{ltb, leb}
 use Rattle.base.specs.Lists.{flatten, place_words, list_after, All}

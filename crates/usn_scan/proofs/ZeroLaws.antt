@@ -10,7 +10,7 @@ use Rattle.base.proofs.WalkLaws.{left}
 use Rattle.usn_record.specs.Bytes.{le_at}
 use Rattle.usn_record.specs.Zeros.{PastZeros}
 use Rattle.usn_record.proofs.ZeroLaws.{zeros-passed}
-use Rattle.usn_scan.specs.Scan.{Event, scan_visit, events_from}
+use Rattle.usn_scan.specs.Scan.{scan_visit, events_from}
 use Rattle.usn_scan.proofs.StepLaws.{visit-short}
 use Rattle.usn_scan.proofs.ScanLaws.{visit-forward}
 

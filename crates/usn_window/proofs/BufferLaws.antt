@@ -1,26 +1,25 @@
 -- A window over a buffer that holds its bytes of the journal does what it does over the journal itself, and keeps holding them.
 -- Assumes nothing.
-use Prim.Native.Nat.{ℕ, zero, suc, ◌+◌, ◌-◌, ◌≤◌, ◌<◌, min}
+use Prim.Native.Nat.{ℕ, zero, suc, ◌+◌, ◌-◌, ◌≤◌, ◌<◌}
 use mathlib.Core.Path.{◌≡◌, refl, sym, ap, ◌∙◌}
-use mathlib.Core.List.{List, [], ◌∷◌, ◌++◌}
-use mathlib.Core.Bool.{Bool, true, false, cond, ◌||◌}
+use mathlib.Core.List.{List}
+use mathlib.Core.Bool.{◌||◌}
 use native.Mathlib.Nat.{add-zero}
 use native.Mathlib.Omega.{arith}
 use lib.ListN.{length, get_or}
 use lib.Dec.{ltb, eqb}
-use borrow.Author.Tests.{ltb-false, eqb-true, eqb-false, eq-eqb}
+use borrow.Author.Tests.{ltb-false, eqb-true}
 use Rattle.base.specs.Outcome.{Outcome, refused, answered}
-use Rattle.base.specs.Places.{part, round8}
+use Rattle.base.specs.Places.{part}
 use Rattle.base.proofs.ChoiceLaws.{cond_cases, cond-two, or_left, or_right}
 use Rattle.base.proofs.AgreeLaws.{part_same}
 use Rattle.usn_record.specs.Bytes.{le_at}
-use Rattle.usn_record.specs.Record.{listed}
 use Rattle.usn_record.specs.declared.UsnRecord.{UsnRecord}
 use Rattle.usn_record.proofs.ByteLaws.{read-part}
 use Rattle.usn_record.proofs.ListedLaws.{listed-moved}
 use Rattle.window_numbers.specs.Numbers.{window_size}
-use Rattle.usn_window.specs.Window.{numbers_in, window_refusal, wanted_of, refilled, skipped, finished, Ready}
-use Rattle.usn_window.specs.Rule.{Reads, buffer_reads, journal_reads, reading, asking, or_end, past_end, given, turn_by_length, turn_of, onward, turns, searched}
+use Rattle.usn_window.specs.Window.{numbers_in, window_refusal, wanted_of, refilled, skipped, Ready}
+use Rattle.usn_window.specs.Rule.{Reads, buffer_reads, journal_reads, or_end, given, turn_by_length, turn_of, onward, turns, searched}
 use Rattle.usn_window.specs.Calls.{next_of}
 use Rattle.usn_window.specs.declared.UsnJournalReader.{UsnJournalReader}
 use Rattle.usn_window.specs.declared.Reading.{Reading}

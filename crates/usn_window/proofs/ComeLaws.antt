@@ -1,8 +1,8 @@
 -- What a search answers, followed by what is to come from the window that it leaves, is what was to come; and nothing is to come after an
 -- end. Assumes nothing.
-use Prim.Native.Nat.{ℕ, zero, suc, ◌+◌, ◌-◌, ◌≤◌, ◌<◌, min}
+use Prim.Native.Nat.{ℕ, zero, suc, ◌+◌, ◌-◌, ◌<◌}
 use mathlib.Core.Path.{◌≡◌, refl, sym, ap, ◌∙◌}
-use mathlib.Core.List.{List, [], ◌∷◌, ◌++◌}
+use mathlib.Core.List.{List, [], ◌++◌}
 use mathlib.Core.Bool.{Bool, true, false, cond, true≢false, ◌||◌}
 use native.Mathlib.Omega.{arith}
 use lib.ListN.{length}
@@ -10,18 +10,17 @@ use lib.Dec.{ltb, eqb}
 use Rattle.base.specs.Outcome.{Outcome, refused, answered}
 use Rattle.base.specs.Places.{round8}
 use Rattle.base.specs.declared.Place.{Place}
-use Rattle.base.proofs.ChoiceLaws.{cond_cases, cond-two}
+use Rattle.base.proofs.ChoiceLaws.{cond-two}
 use Rattle.usn_record.specs.Bytes.{le_at}
 use Rattle.usn_record.specs.Record.{listed}
 use Rattle.usn_record.specs.declared.UsnRecord.{UsnRecord}
 use Rattle.window_numbers.specs.Numbers.{window_size, window_end}
-use Rattle.usn_window.specs.Window.{refilled, skipped, finished}
-use Rattle.usn_window.specs.Rule.{Reads, journal_reads, named_from, asking, or_end, past_end, given, turn_by_length, turn_of, onward, searched}
-use Rattle.usn_window.specs.Journal.{WindowStep, over, onto, found, refill_to, step_at, after_step, to_come}
-use Rattle.usn_window.specs.Run.{place_of, coming, RecordGiven, GivesRecord}
+use Rattle.usn_window.specs.Window.{refilled, skipped}
+use Rattle.usn_window.specs.Rule.{journal_reads, or_end, past_end, given, turn_by_length, turn_of, onward, searched}
+use Rattle.usn_window.specs.Journal.{WindowStep, onto, found, refill_to, step_at, after_step, to_come}
+use Rattle.usn_window.specs.Run.{place_of, coming, GivesRecord}
 use Rattle.usn_window.specs.declared.UsnJournalReader.{UsnJournalReader}
-use Rattle.usn_window.specs.declared.Answer.{Answer}
-use Rattle.usn_window.specs.declared.Answer.TheVariants.{Record, Wants, End, Refused}
+use Rattle.usn_window.specs.declared.Answer.TheVariants.{Record, Wants, End}
 use Rattle.usn_window.specs.declared.Reading.{Reading}
 use Rattle.usn_window.specs.declared.turn.Turn.{Turn}
 use Rattle.usn_window.specs.declared.turn.Turn.TheVariants.{Done, Again}

@@ -1,9 +1,9 @@
 -- Two runs of a window that really differ, with deliveries that differ as well; and journals in reads of one byte. Assumes nothing.
-use Prim.Native.Nat.{ℕ, ◌+◌, ◌≤◌}
+use Prim.Native.Nat.{ℕ}
 use mathlib.Core.Path.{◌≡◌, refl, sym, ap, ◌∙◌}
 use mathlib.Core.List.{List, [], ◌∷◌, ◌++◌}
 use native.Mathlib.Omega.{arith}
-use lib.ListN.{length, get_or, replicate, length-replicate}
+use lib.ListN.{length, get_or, replicate}
 use lib.Seq.{take_all}
 use Rattle.base.specs.Masked.{Masked, places_of}
 use Rattle.base.proofs.MaskedLaws.{masked-middle}
@@ -14,11 +14,11 @@ use Rattle.usn_record.proofs.SampleLaws.{sample-listed, sample-named}
 use Rattle.window_numbers.specs.Numbers.{window_size, wrong_end, wrong_numbers, numbers_refusal}
 use Rattle.usn_window.specs.Window.{wanted_of}
 use Rattle.usn_window.specs.Rule.{named_from, turn_by_length, turn_of, turns, searched}
-use Rattle.usn_window.specs.Calls.{next_of, give_refusal, give_of, buffer_after}
+use Rattle.usn_window.specs.Calls.{next_of, give_refusal, give_of}
 use Rattle.usn_window.specs.Journal.{step_at, steps, to_come, window_list}
-use Rattle.usn_window.specs.Run.{Call, next, give, State, reading_of, buffer_of, state_after, readings, given_by, fresh_over, shapes}
+use Rattle.usn_window.specs.Run.{Call, next, give, reading_of, readings, given_by, fresh_over, shapes}
 use Rattle.usn_window.specs.Owed.{nothing, asked_by, Delivery}
-use Rattle.usn_window.specs.Delivery.{Got, ended, records_at, deliver, pieces, journal_records, calls_for, Way, delivered_by}
+use Rattle.usn_window.specs.Delivery.{Got, ended, records_at, deliver, journal_records, Way}
 use Rattle.usn_window.specs.declared.Reading.{Reading}
 use Rattle.usn_window.proofs.RunLaws.{journal_reading, journal_readings, run-journal}
 use Rattle.usn_window.proofs.CountLaws.{delivery-carries}

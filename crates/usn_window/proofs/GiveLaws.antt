@@ -1,7 +1,7 @@
 -- Bytes that carry the journal, given behind those that are held, leave the buffer holding the journal. Assumes nothing.
 use Prim.Native.Nat.{ℕ, ◌+◌, ◌-◌, ◌≤◌, ◌<◌}
-use mathlib.Core.Path.{◌≡◌, refl, sym, ap, ◌∙◌}
-use mathlib.Core.List.{List, [], ◌∷◌, ◌++◌, append_assoc}
+use mathlib.Core.Path.{◌≡◌, refl, ap, ◌∙◌}
+use mathlib.Core.List.{List, ◌++◌, append_assoc}
 use mathlib.Core.Bool.{Bool, true, false, cond}
 use native.Mathlib.Omega.{arith}
 use lib.ListN.{length, get_or, take, drop, get_or-append}
@@ -12,13 +12,11 @@ use Rattle.base.specs.Places.{part}
 use Rattle.base.specs.Refusals.{too_many_bytes}
 use Rattle.base.proofs.ChoiceLaws.{cond_cases, cond-two}
 use Rattle.base.proofs.AgreeLaws.{part_in}
-use Rattle.window_numbers.specs.Numbers.{window_size}
-use Rattle.usn_window.specs.Window.{numbers_in, window_refusal, wanted_of, finished, fed_by}
-use Rattle.usn_window.specs.Rule.{reading, asking}
+use Rattle.usn_window.specs.Window.{numbers_in, window_refusal, wanted_of, fed_by}
 use Rattle.usn_window.specs.Calls.{give_refusal, give_of, buffer_after}
 use Rattle.usn_window.specs.declared.UsnJournalReader.{UsnJournalReader}
 use Rattle.usn_window.specs.declared.Reading.{Reading}
-use Rattle.window_numbers.proofs.NumberLaws.{sound-of, EndOf, end_of}
+use Rattle.window_numbers.proofs.NumberLaws.{sound-of, end_of}
 use Rattle.usn_window.proofs.WindowLaws.{Sound, wanted-le}
 use Rattle.usn_window.proofs.CallLaws.{sets-none}
 use Rattle.usn_window.proofs.BufferLaws.{Filled}

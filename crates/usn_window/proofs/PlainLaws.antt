@@ -1,9 +1,9 @@
 -- Where no record that the window comes to passes the journal's end, its list is the plain walk of its rule: the refills change nothing.
 -- Assumes nothing.
-use Prim.Native.Nat.{ℕ, zero, suc, ◌+◌, ◌-◌, ◌*◌, ◌≤◌, ◌<◌, min}
-use mathlib.Core.Path.{◌≡◌, refl, sym, ap, ◌∙◌}
-use mathlib.Core.List.{List, [], ◌∷◌, ◌++◌}
-use mathlib.Core.Bool.{Bool, true, false, cond, ◌||◌}
+use Prim.Native.Nat.{ℕ, zero, suc, ◌+◌, ◌≤◌, ◌<◌}
+use mathlib.Core.Path.{◌≡◌, sym, ap, ◌∙◌}
+use mathlib.Core.List.{List, [], ◌++◌}
+use mathlib.Core.Bool.{true, ◌||◌}
 use native.Mathlib.Omega.{arith}
 use lib.ListN.{length}
 use lib.Dec.{ltb, eqb}
@@ -16,7 +16,7 @@ use Rattle.base.proofs.WalkLaws.{Forward, from_step, Stays}
 use Rattle.usn_record.specs.Bytes.{le_at}
 use Rattle.usn_record.specs.Record.{listed}
 use Rattle.window_numbers.specs.Numbers.{window_size, window_end}
-use Rattle.usn_window.specs.Journal.{WindowStep, over, onto, found, refill_to, step_at, after_step, to_come, window_list, plain_visit}
+use Rattle.usn_window.specs.Journal.{WindowStep, onto, found, refill_to, step_at, after_step, to_come, window_list, plain_visit}
 use Rattle.usn_window.proofs.JournalLaws.{Steady, left, Falls, step_falls, to-come}
 
 pub plain-forward : (s : List ℕ) (p : ℕ) → Forward (length s) p (plain_visit s p)

@@ -1,17 +1,14 @@
 -- What a search reads of the journal: 8 bytes at each position that it comes to, and the fixed part of the record that it gives.
 -- Assumes nothing.
-use Prim.Native.Nat.{ℕ, zero, suc, ◌+◌, ◌-◌, ◌≤◌, ◌<◌, min}
+use Prim.Native.Nat.{ℕ, zero, suc, ◌+◌, ◌-◌, ◌≤◌, ◌<◌}
 use mathlib.Core.Path.{◌≡◌, refl, sym, ap, ◌∙◌}
-use mathlib.Core.List.{List, [], ◌∷◌}
-use mathlib.Core.Bool.{Bool, true, false, cond, ◌||◌}
+use mathlib.Core.List.{List}
+use mathlib.Core.Bool.{◌||◌}
 use native.Mathlib.Omega.{arith}
-use lib.ListN.{length}
 use lib.Dec.{ltb, eqb}
-use borrow.Author.Tests.{ltb-false}
 use Rattle.base.specs.Outcome.{Outcome, refused, answered}
-use Rattle.base.specs.Places.{round8}
 use Rattle.base.specs.Agree.{Agree}
-use Rattle.base.proofs.ChoiceLaws.{cond_cases, cond-two, or_left}
+use Rattle.base.proofs.ChoiceLaws.{cond_cases, cond-two}
 use Rattle.base.proofs.AgreeLaws.{agree-in}
 use Rattle.usn_record.specs.Bytes.{le_at}
 use Rattle.usn_record.specs.Record.{listed}
@@ -19,10 +16,10 @@ use Rattle.usn_record.specs.Names.{fixed_of}
 use Rattle.usn_record.specs.declared.UsnRecord.{UsnRecord}
 use Rattle.usn_record.proofs.ByteLaws.{read-agree}
 use Rattle.usn_record.proofs.NameLaws.{fixed-low}
-use Rattle.usn_record.proofs.ListedLaws.{reach_of, listed-reads, listed-fixed}
+use Rattle.usn_record.proofs.ListedLaws.{listed-reads, listed-fixed}
 use Rattle.window_numbers.specs.Numbers.{window_size}
-use Rattle.usn_window.specs.Window.{window_refusal, wanted_of, refilled, skipped, finished}
-use Rattle.usn_window.specs.Rule.{Reads, journal_reads, named_from, reading, asking, or_end, past_end, given, turn_by_length, turn_of, onward, searched}
+use Rattle.usn_window.specs.Window.{window_refusal, wanted_of, refilled, skipped}
+use Rattle.usn_window.specs.Rule.{journal_reads, or_end, given, turn_by_length, turn_of, onward, searched}
 use Rattle.usn_window.specs.Calls.{next_of, give_refusal, give_of}
 use Rattle.usn_window.specs.declared.UsnJournalReader.{UsnJournalReader}
 use Rattle.usn_window.specs.declared.Answer.{Answer}

@@ -1,9 +1,8 @@
 -- A call of a window whose buffer holds the journal answers as over the journal itself, and leaves the buffer holding it. Assumes nothing.
 use Prim.Native.Nat.{ℕ, ◌+◌}
-use mathlib.Core.Path.{◌≡◌, refl, sym, ap, ◌∙◌}
+use mathlib.Core.Path.{◌≡◌, refl}
 use mathlib.Core.List.{List, [], ◌∷◌}
 use lib.ListN.{length}
-use lib.Dec.{eqb}
 use borrow.Author.Tests.{ne_eqb}
 use Rattle.base.specs.Places.{part}
 use Rattle.window_numbers.specs.Numbers.{window_size}

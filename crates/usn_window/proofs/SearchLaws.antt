@@ -3,7 +3,7 @@
 use Prim.Native.Nat.{ℕ, zero, suc, ◌+◌, ◌-◌, ◌%◌, ◌≤◌, ◌<◌}
 use mathlib.Core.Path.{◌≡◌, refl, sym, ap, ◌∙◌}
 use mathlib.Core.List.{List}
-use mathlib.Core.Bool.{Bool, true, false, cond, ◌||◌}
+use mathlib.Core.Bool.{◌||◌}
 use native.Mathlib.Omega.{arith}
 use lib.Dec.{ltb, eqb}
 use borrow.Author.Tests.{ltb-false}
@@ -12,7 +12,7 @@ use Rattle.base.specs.Places.{round8}
 use Rattle.base.proofs.ChoiceLaws.{cond_cases, or_left}
 use Rattle.usn_record.specs.declared.UsnRecord.{UsnRecord}
 use Rattle.window_numbers.specs.Numbers.{window_size}
-use Rattle.usn_window.specs.Window.{refilled, skipped, moved_by, Ready}
+use Rattle.usn_window.specs.Window.{refilled, moved_by, Ready}
 use Rattle.usn_window.specs.Rule.{Reads, buffer_reads, or_end, given, turn_by_length, turn_of, onward, turns, searched, Passes}
 use Rattle.usn_window.specs.declared.UsnJournalReader.{UsnJournalReader}
 use Rattle.usn_window.specs.declared.Reading.{Reading}

@@ -1,7 +1,7 @@
 -- By any list of calls that delivers a journal the window gives the journal's records: what it gave, followed by what is still to come from
 -- the window that it reached, is the window's list of the journal; and after an end nothing is to come, unless an empty giving ended the
 -- reading. That the end is reached is shown in `Progress` and `Forward`. Assumes nothing.
-use Prim.Native.Nat.{ℕ, ◌+◌, ◌-◌, ◌≤◌, ◌<◌}
+use Prim.Native.Nat.{ℕ}
 use mathlib.Core.Path.{◌≡◌, refl, sym, ap, ◌∙◌}
 use mathlib.Core.List.{List, [], ◌∷◌, ◌++◌, append_assoc, append-nil}
 use mathlib.Core.Bool.{Bool, true, false, cond, true≢false}
@@ -14,17 +14,16 @@ use Rattle.base.specs.Refusals.{too_many_bytes}
 use Rattle.base.specs.declared.Place.{Place}
 use Rattle.base.proofs.ChoiceLaws.{cond_cases}
 use Rattle.window_numbers.specs.Numbers.{window_size}
-use Rattle.usn_window.specs.Window.{window_refusal, wanted_of, finished, fed_by, fresh}
-use Rattle.usn_window.specs.Rule.{Reads, buffer_reads, journal_reads, reading, asking, searched}
+use Rattle.usn_window.specs.Window.{window_refusal, wanted_of}
+use Rattle.usn_window.specs.Rule.{journal_reads, reading, searched}
 use Rattle.usn_window.specs.Calls.{next_of, give_refusal, give_of}
 use Rattle.usn_window.specs.Journal.{window_list}
-use Rattle.usn_window.specs.Run.{Call, next, give, next_other, give_other, State, CallShape, asks, gives, shape_of, reading_of, buffer_of, state_after, readings, reached, place_of, given_by, coming, GivesRecord, fresh_over}
+use Rattle.usn_window.specs.Run.{Call, next, give, next_other, give_other, State, shape_of, reading_of, state_after, readings, reached, place_of, given_by, coming, GivesRecord, fresh_over}
 use Rattle.usn_window.specs.Owed.{Delivery, Lasting}
 use Rattle.usn_window.specs.declared.UsnJournalReader.{UsnJournalReader}
 use Rattle.usn_window.specs.declared.Answer.{Answer}
-use Rattle.usn_window.specs.declared.Answer.TheVariants.{Record, Wants, End, Refused}
+use Rattle.usn_window.specs.declared.Answer.TheVariants.{Wants, End, Refused}
 use Rattle.usn_window.specs.declared.Reading.{Reading}
-use Rattle.usn_window.proofs.JournalLaws.{Steady}
 use Rattle.usn_window.proofs.BufferLaws.{Filled}
 use Rattle.usn_window.proofs.RunLaws.{Carries, AllCarry, Goes, AllGo, other, journal_reading, call-journal}
 use Rattle.usn_window.proofs.CountLaws.{delivery-carries, lasting-goes}

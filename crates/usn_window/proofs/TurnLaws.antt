@@ -1,27 +1,22 @@
 -- The ways out of a turn, and the turns after one another. Assumes nothing.
-use Prim.Native.Nat.{ℕ, zero, suc, ◌+◌, ◌-◌, ◌≤◌, ◌<◌, min}
-use mathlib.Core.Path.{◌≡◌, refl, sym, ap, ◌∙◌}
+use Prim.Native.Nat.{ℕ, ◌+◌, ◌-◌, ◌≤◌, ◌<◌}
+use mathlib.Core.Path.{◌≡◌, sym, ap, ◌∙◌}
 use mathlib.Core.List.{List}
-use mathlib.Core.Bool.{Bool, true, false, cond, ◌||◌}
 use native.Mathlib.Omega.{arith}
-use lib.Dec.{ltb, eqb}
-use borrow.Author.Tests.{lt-ltb, le-ltb, eq-eqb, ne_eqb, ltb-false}
-use Rattle.base.specs.Outcome.{Outcome, refused, answered}
+use borrow.Author.Tests.{lt-ltb, le-ltb}
 use Rattle.base.specs.Places.{place_from}
 use Rattle.base.specs.declared.Place.{Place}
-use Rattle.base.proofs.ChoiceLaws.{cond_cases, or_left, or_right}
 use Rattle.usn_record.specs.Bytes.{le_at}
 use Rattle.usn_record.specs.Record.{outcome, listed}
 use Rattle.usn_record.specs.declared.UsnRecord.{UsnRecord}
 use Rattle.usn_record.specs.declared.Parsed.{Parsed}
 use Rattle.usn_record.specs.declared.Parsed.TheVariants.{Record as Accepted, Refused as Rejected}
 use Rattle.usn_record.proofs.NameLaws.{listed-name}
-use Rattle.window_numbers.specs.Numbers.{window_size, window_end}
-use Rattle.usn_window.specs.Window.{wanted_of, refilled, skipped, advanced, finished, Ready}
-use Rattle.usn_window.specs.Rule.{Reads, named_from, reading, asking, or_end, past_end, given, turn_by_length, turn_of, onward, turns, searched}
+use Rattle.window_numbers.specs.Numbers.{window_size}
+use Rattle.usn_window.specs.Window.{refilled, skipped, advanced}
+use Rattle.usn_window.specs.Rule.{Reads, named_from, reading, or_end, past_end, given, turn_by_length, turn_of}
 use Rattle.usn_window.specs.declared.UsnJournalReader.{UsnJournalReader}
-use Rattle.usn_window.specs.declared.Answer.TheVariants.{Record, End}
-use Rattle.usn_window.specs.declared.Reading.{Reading}
+use Rattle.usn_window.specs.declared.Answer.TheVariants.{Record}
 use Rattle.usn_window.specs.declared.turn.Turn.{Turn}
 use Rattle.usn_window.specs.declared.turn.Turn.TheVariants.{Done, Again}
 

@@ -4,7 +4,7 @@ use Prim.Native.Nat.{ℕ, ◌+◌, ◌≤◌, ◌<◌}
 use mathlib.Core.Path.{◌≡◌, refl, sym, ap, ◌∙◌}
 use mathlib.Core.List.{List, [], ◌∷◌, ◌++◌}
 use native.Mathlib.Omega.{arith}
-use lib.ListN.{length, get_or}
+use lib.ListN.{length}
 use Rattle.base.specs.Lists.{All}
 use Rattle.base.specs.Agree.{Agree}
 use Rattle.base.specs.Masked.{Apart, Masked, places_of}
@@ -17,7 +17,7 @@ use Rattle.usn_record.specs.Record.{listed}
 use Rattle.usn_record.specs.Names.{fixed_of, name_at}
 use Rattle.usn_record.proofs.NameLaws.{fixed-low, listed-agrees, name-after-fixed, name-before-end}
 use Rattle.window_numbers.specs.Numbers.{window_size}
-use Rattle.usn_window.specs.Run.{Call, CallShape, asks, gives, shape_of, readings, place_of, given_by, fresh_over, shapes}
+use Rattle.usn_window.specs.Run.{Call, CallShape, asks, gives, readings, place_of, given_by, fresh_over, shapes}
 use Rattle.usn_window.specs.Owed.{Delivery}
 use Rattle.usn_window.specs.declared.UsnJournalReader.{UsnJournalReader}
 use Rattle.usn_window.specs.declared.Answer.{Answer}

@@ -1,21 +1,18 @@
 -- Zero words of the window are passed by the turns one after the other, so passing them at once changes nothing of the search.
 -- Assumes nothing.
-use Prim.Native.Nat.{ℕ, ◌+◌, ◌-◌, ◌%◌, ◌≤◌, ◌<◌}
+use Prim.Native.Nat.{ℕ, ◌+◌, ◌-◌, ◌≤◌}
 use mathlib.Core.Path.{◌≡◌, refl, sym, ap, ◌∙◌}
 use mathlib.Core.List.{List}
-use native.Mathlib.Nat.{zero-add}
 use native.Mathlib.Omega.{arith}
-use lib.ListN.{length, take, drop}
+use lib.ListN.{length, take}
 use Rattle.base.proofs.AgreeLaws.{part_length}
 use Rattle.usn_record.specs.Bytes.{le_at}
 use Rattle.usn_record.specs.Zeros.{PastZeros}
 use Rattle.usn_record.proofs.ByteLaws.{read-part}
 use Rattle.usn_record.proofs.ZeroLaws.{past-inside, past-whole, zeros-passed}
-use Rattle.window_numbers.specs.Numbers.{window_size}
-use Rattle.usn_window.specs.Window.{moved_by, skipped, Ready}
+use Rattle.usn_window.specs.Window.{skipped, Ready}
 use Rattle.usn_window.specs.Rule.{buffer_reads, onward, searched, Passes}
 use Rattle.usn_window.specs.declared.UsnJournalReader.{UsnJournalReader}
-use Rattle.usn_window.specs.declared.Reading.{Reading}
 use Rattle.usn_window.proofs.TurnLaws.{turn_below}
 use Rattle.usn_window.proofs.SearchLaws.{search-step}
 

@@ -1,11 +1,11 @@
 -- What the calls answer, and what `give` leaves in the buffer.
-use Rattle.std.specs.Prelude.{ℕ, List, Bool, cond, length, ltb, eqb}
+use Rattle.std.specs.Prelude.{ℕ, List, cond, length, ltb, eqb}
 use Rattle.std.proofs.lemmas.List.Edits.{sets}
 use Rattle.base.specs.Refusals.{too_many_bytes}
 use Rattle.usn_window.specs.Window.{window_refusal, wanted_of, finished, fed_by}
 use Rattle.usn_window.specs.Rule.{Reads, reading, asking, searched}
 use Rattle.usn_window.specs.declared.UsnJournalReader.{UsnJournalReader}
-use Rattle.usn_window.specs.declared.Answer.TheVariants.{Record, Wants, End, Refused}
+use Rattle.usn_window.specs.declared.Answer.TheVariants.{End, Refused}
 use Rattle.usn_window.specs.declared.Reading.{Reading}
 
 -- next, with a buffer of n bytes

@@ -9,7 +9,7 @@ use Rattle.window_numbers.specs.Numbers.{window_size}
 use Rattle.usn_window.specs.Window.{wanted_of, refilled, skipped, advanced, moved_by, finished}
 use Rattle.usn_window.specs.declared.UsnJournalReader.{UsnJournalReader}
 use Rattle.usn_window.specs.declared.Answer.{Answer}
-use Rattle.usn_window.specs.declared.Answer.TheVariants.{Record, Wants, End, Refused}
+use Rattle.usn_window.specs.declared.Answer.TheVariants.{Record, Wants, End}
 use Rattle.usn_window.specs.declared.Reading.{Reading}
 use Rattle.usn_window.specs.declared.turn.Turn.{Turn}
 use Rattle.usn_window.specs.declared.turn.Turn.TheVariants.{Done, Again}

@@ -1,8 +1,7 @@
 -- The invariant: the bytes copied so far, with what is still to be copied, are all of them.
 use Prim.Native.Nat.{◌-◌}
-use native.Mathlib.Omega.{arith}
 use lib.ListN.{length}
-use Rattle.base.proofs.ListLaws.{Copying, copying-start, copying-word, copying-end}
+use Rattle.base.proofs.ListLaws.{Copying}
 use Rattle.base.proofs.put_bytes.Given as goal
 
 abbrev pub invariant-loop-k : goal.invariant-loop-k

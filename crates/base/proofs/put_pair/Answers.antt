@@ -1,7 +1,6 @@
 use native.Mathlib.Omega.{arith}
 use native.Mathlib.Numerals.{towards_suc}
 use lib.ListN.{length-set}
-use borrow.Author.Rules.{rules}
 use Rattle.base.proofs.put_pair.Goals as goal
 
 pub bounds-list-i-2 : goal.bounds-list-i-2

@@ -1,7 +1,5 @@
-use Prim.Native.Nat.{◌-◌}
 use native.Mathlib.Omega.{arith}
-use lib.ListN.{length}
-use Rattle.base.proofs.ListLaws.{Copying, copying-start, copying-word, copying-end}
+use Rattle.base.proofs.ListLaws.{copying-start, copying-word, copying-end}
 use Rattle.base.proofs.put_words.Goals as goal
 
 pub loop-k-init : goal.loop-k-init

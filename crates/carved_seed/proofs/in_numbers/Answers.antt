@@ -2,7 +2,6 @@
 use mathlib.Core.Path.{ap}
 use Rattle.entry_table.specs.Promise.{outcome}
 use Rattle.carved_seed.proofs.WayLaws.{numbers}
-use borrow.Author.Rules.{rules}
 use Rattle.carved_seed.proofs.in_numbers.Goals as goal
 
 pub returns-in-Used : goal.returns-in-Used

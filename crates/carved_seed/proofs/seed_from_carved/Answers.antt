@@ -1,10 +1,6 @@
-use mathlib.Core.Path.{refl, ap, sym, ◌∙◌}
-use mathlib.Core.List.{List}
 use lib.ListN.{length}
 use Rattle.entry_slots.specs.Names.{lengths_of}
-use Rattle.entry_slots.specs.Table.{table, Addition}
-use Rattle.additions.specs.Storing.{storing}
-use Rattle.entry_table.specs.Promise.{outcome, Stores}
+use Rattle.entry_slots.specs.Table.{table}
 use Rattle.carved_seed.proofs.EntryLaws.{added_at, whole-entries}
 use Rattle.carved_seed.proofs.SeedLaws.{stands-first, stands-next, stands-over}
 use Rattle.carved_seed.proofs.seed_from_carved.Goals as goal

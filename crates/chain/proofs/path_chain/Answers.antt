@@ -2,7 +2,6 @@
 use native.Mathlib.Omega.{arith}
 use Rattle.chain.specs.Settings.{depth}
 use Rattle.chain.proofs.CallLaws.{tests-fail, tests-pass, chain-traced, chain-refused, chain-listed}
-use borrow.Author.Rules.{rules}
 use Rattle.chain.proofs.path_chain.Goals as goal
 
 pub returns-then-n-ne0 : goal.returns-then-n-ne0

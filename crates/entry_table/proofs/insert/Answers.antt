@@ -1,5 +1,4 @@
 -- The lengths of journal and image are what is stored by.
-use borrow.Author.Rules.{rules}
 use Rattle.entry_table.proofs.insert.Goals as goal
 
 pub returns : goal.returns

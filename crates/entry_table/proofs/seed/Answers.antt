@@ -1,5 +1,4 @@
 -- Seeding with no words for an index.
-use borrow.Author.Rules.{rules}
 use Rattle.entry_table.proofs.seed.Goals as goal
 
 pub returns : goal.returns

@@ -1,12 +1,11 @@
 -- Each way out by its tests.
 use mathlib.Core.Path.{refl, sym, ◌∙◌}
 use native.Mathlib.Omega.{arith}
-use borrow.Author.Tests.{leb-true, leb-false, not-true, not-false}
+use borrow.Author.Tests.{leb-true, leb-false}
 use Rattle.additions.proofs.StoringLaws.{adding-full, stored-bad-state, stored-outside, stored-inside}
 use Rattle.additions.proofs.CountLaws.{adding-room}
 use Rattle.entry_table.proofs.AddingLaws.{stores-by}
 use Rattle.entry_table.proofs.SeedLaws.{heads-long, nexts-long, index-again, index-then}
-use borrow.Author.Rules.{rules}
 use Rattle.entry_table.proofs.seed_by.Goals as goal
 
 pub returns-then-slots-used : goal.returns-then-slots-used

@@ -1,12 +1,10 @@
 -- By whether the words are enough.
 use mathlib.Core.Path.{sym, ◌∙◌}
-use native.Mathlib.Omega.{arith}
 use Rattle.entry_slots.specs.Names.{lengths_of}
 use Rattle.entry_slots.specs.Slots.{slots_in}
 use Rattle.entry_slots.specs.Table.{table}
 use Rattle.additions.specs.Carved.{seeding}
 use Rattle.entry_table.proofs.SeedLaws.{enough-room, left-built, left-plain}
-use borrow.Author.Rules.{rules}
 use Rattle.entry_table.proofs.seed_indexed.Goals as goal
 
 pub seed_by-requires : goal.seed_by-requires

@@ -1,10 +1,8 @@
 -- Each way out by its tests.
 use mathlib.Core.Path.{refl}
-use borrow.Author.Tests.{not-true, not-false}
 use Rattle.entry_slots.proofs.NameLaws.{one_inside}
 use Rattle.additions.proofs.StoringLaws.{stored-bad-state, stored-outside, stored-inside}
 use Rattle.entry_table.proofs.AddingLaws.{stores}
-use borrow.Author.Rules.{rules}
 use Rattle.entry_table.proofs.store.Goals as goal
 
 pub returns-then-slots-used : goal.returns-then-slots-used

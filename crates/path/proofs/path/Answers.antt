@@ -2,7 +2,6 @@
 use mathlib.Core.Path.{ap, ◌∙◌}
 use mathlib.Core.List.{[]}
 use native.Mathlib.Omega.{arith}
-use borrow.Author.Rules.{rules}
 use Rattle.entry_slots.specs.Table.{table}
 use Rattle.entry_slots.proofs.IndexLaws.{none-indexed}
 use Rattle.chain.specs.Settings.{depth}

@@ -1,8 +1,6 @@
 -- Each way out by its tests.
 use mathlib.Core.Path.{sym, ◌∙◌}
 use native.Mathlib.Omega.{arith}
-use borrow.Author.Rules.{rules}
-use borrow.Author.Tests.{not-true, not-false}
 use Rattle.path_text.proofs.CallLaws.{decode-journal, decode-image, decode-outside, decode-full, decode-written}
 use Rattle.path_text.proofs.decode.Goals as goal
 

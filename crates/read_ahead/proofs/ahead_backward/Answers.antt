@@ -1,7 +1,6 @@
 -- Where records are read ahead for, they are among those listed.
 use native.Mathlib.Omega.{arith}
 use lib.ListN.{length-take}
-use borrow.Author.Rules.{rules}
 use Rattle.read_ahead.proofs.ReadingLaws.{fits, done-further, done-to}
 use Rattle.read_ahead.proofs.ahead_backward.Goals as goal
 

@@ -1,5 +1,4 @@
 -- Each way out by its tests.
-use borrow.Author.Rules.{rules}
 use native.Mathlib.Omega.{arith}
 use Rattle.read_ahead.proofs.ReadingLaws.{no_index, small-table, some_left, many-left}
 use Rattle.read_ahead.proofs.at_once.Goals as goal

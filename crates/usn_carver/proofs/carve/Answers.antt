@@ -1,5 +1,4 @@
 -- Each way out by its tests.
-use borrow.Author.Rules.{rules}
 use mathlib.Core.Path.{sym, ◌∙◌}
 use borrow.Author.Tests.{leb-true, leb-false}
 use Rattle.usn_carver.proofs.CallLaws.{refuses-above-domain, refuses-full, carves}

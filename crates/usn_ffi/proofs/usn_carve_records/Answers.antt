@@ -1,5 +1,4 @@
 -- Too few words are refused behind the domain; otherwise carving's equations say what goes out.
-use borrow.Author.Rules.{rules}
 use Rattle.base.proofs.WordLaws.{out-same, lists-short, lists-answered}
 use Rattle.usn_ffi.proofs.DomainLaws.{carving-domain}
 use Rattle.usn_ffi.proofs.usn_carve_records.Goals as goal

@@ -1,5 +1,4 @@
 -- Too few words are refused first; otherwise the equation of the record says what goes out.
-use borrow.Author.Rules.{rules}
 use mathlib.Core.Path.{refl}
 use Rattle.usn_ffi.proofs.DomainLaws.{listed-domain}
 use Rattle.usn_ffi.proofs.RecordLaws.{record-short, record-answers}

@@ -1,5 +1,4 @@
 -- Too few words are refused behind the domain; otherwise the scan's equations say what goes out.
-use borrow.Author.Rules.{rules}
 use Rattle.base.proofs.WordLaws.{lists-short, lists-answered}
 use Rattle.usn_ffi.proofs.DomainLaws.{scan-domain}
 use Rattle.usn_ffi.proofs.JournalLaws.{journal-out}

@@ -1,5 +1,4 @@
 -- Too few words are refused behind the domain; otherwise the parser's equation says what goes out.
-use borrow.Author.Rules.{rules}
 use Rattle.usn_ffi.proofs.DomainLaws.{parsed-domain}
 use Rattle.usn_ffi.proofs.RecordLaws.{record-short, record-answers}
 use Rattle.usn_ffi.proofs.usn_parse_record_v3.Goals as goal

@@ -1,5 +1,4 @@
 -- Too few words of a window are refused first, and too few for the answer behind its total; otherwise the window's equations say what goes out.
-use borrow.Author.Rules.{rules}
 use Rattle.usn_ffi.proofs.WindowLaws.{short-reader, give-refused, give-short, give-answers}
 use Rattle.usn_ffi.proofs.usn_reader_give.Goals as goal
 

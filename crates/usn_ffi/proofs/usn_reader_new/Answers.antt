@@ -1,5 +1,4 @@
 -- Too few words are refused first; otherwise those of the new window are stored.
-use borrow.Author.Rules.{rules}
 use Rattle.usn_ffi.proofs.WindowLaws.{new-short, new-answers}
 use Rattle.usn_ffi.proofs.usn_reader_new.Goals as goal
 

@@ -1,5 +1,4 @@
 -- Too few words of a window are refused first, and too few for the answer behind its total; otherwise the window's equation says what goes out.
-use borrow.Author.Rules.{rules}
 use Rattle.usn_answers.proofs.WindowLaws.{out-refused}
 use Rattle.usn_ffi.proofs.WindowLaws.{short-reader, next-short, next-answers}
 use Rattle.usn_ffi.proofs.usn_reader_next.Goals as goal

@@ -1,5 +1,4 @@
 -- Each way out by the tests that led to it; the part that is lent is the record.
-use borrow.Author.Rules.{rules}
 use native.Mathlib.Omega.{arith}
 use Rattle.usn_record.proofs.RecordLaws.{listed-no-header, listed-past-end, listed-v2, listed-v3, listed-other}
 use Rattle.usn_record.proofs.listed_record.Goals as goal

@@ -1,6 +1,5 @@
 -- Each case of the answer.
-use borrow.Author.Rules.{rules}
-use mathlib.Core.Path.{◌≡◌, sym, ap}
+use mathlib.Core.Path.{sym, ap}
 use Rattle.usn_record.specs.Record.{outcome, as_listed}
 use Rattle.usn_record.proofs.not_a_record.Goals as goal
 

@@ -1,5 +1,4 @@
 -- Each way out by the tests that led to it; what is written is what the outcome says.
-use borrow.Author.Rules.{rules}
 use mathlib.Core.Path.{sym, ◌∙◌}
 use borrow.Author.Tests.{leb-true}
 use Rattle.usn_scan.proofs.OutcomeLaws.{refuses-above-domain, refuses-full, lists}

@@ -1,7 +1,6 @@
 -- Each way out by its tests.
 use mathlib.Core.Path.{sym, ◌∙◌}
 use native.Mathlib.Omega.{arith}
-use borrow.Author.Rules.{rules}
 use Rattle.utf16.proofs.CallLaws.{above-domain, text-room, text-full, text-written}
 use Rattle.utf16.proofs.decode_utf16.Goals as goal
 

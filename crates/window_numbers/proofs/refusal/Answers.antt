@@ -1,5 +1,4 @@
 -- Each refusal by the tests that led to it.
-use borrow.Author.Rules.{rules}
 use native.Mathlib.Omega.{arith}
 use mathlib.Core.Path.{sym, ◌∙◌}
 use Rattle.window_numbers.proofs.NumberLaws.{refused-total, refused-buffer, refused-above, refused_end, refused-start, refused-position, refused-before, refused-after, refused-held, not-refused}

@@ -1,5 +1,4 @@
 -- Each answer by its tests.
-use borrow.Author.Rules.{rules}
 use mathlib.Core.Path.{sym, ◌∙◌}
 use Rattle.window_numbers.proofs.NumberLaws.{right_end, first-end, other-end}
 use Rattle.window_numbers.proofs.wrong_end.Goals as goal

@@ -1,5 +1,4 @@
 -- The words are those of the entry.
-use borrow.Author.Rules.{rules}
 use Rattle.additions.proofs.carved.carved_info.Goals as goal
 
 pub returns : goal.returns

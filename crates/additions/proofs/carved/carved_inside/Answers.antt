@@ -1,9 +1,5 @@
-use Prim.Native.Nat.{◌-◌}
 use native.Mathlib.Omega.{arith}
-use borrow.Author.Tests.{not-true, not-false}
-use Rattle.entry_slots.specs.Names.{lengths, inside}
-use Rattle.additions.specs.Carved.{carved_name}
-use Rattle.entry_slots.proofs.NameLaws.{Passing, passing-start, passing-row, passing-outside, passing-end}
+use Rattle.entry_slots.proofs.NameLaws.{passing-start, passing-row, passing-outside, passing-end}
 use Rattle.additions.proofs.CarverLaws.{carved-names}
 use Rattle.additions.proofs.carved.carved_inside.Goals as goal
 

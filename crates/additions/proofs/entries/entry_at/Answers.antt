@@ -1,7 +1,6 @@
 -- By the parser's answer.
 use native.Mathlib.Omega.{arith}
 use Rattle.additions.proofs.EntryLaws.{no-entry, name-ends, entry-said}
-use borrow.Author.Rules.{rules}
 use Rattle.additions.proofs.entries.entry_at.Goals as goal
 
 pub name_from-name-requires : goal.name_from-name-requires

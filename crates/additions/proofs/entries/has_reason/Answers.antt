@@ -1,6 +1,5 @@
 -- By the division, as the definition has it.
 use Rattle.additions.proofs.EntryLaws.{reason-tested}
-use borrow.Author.Rules.{rules}
 use Rattle.additions.proofs.entries.has_reason.Goals as goal
 
 pub returns : goal.returns

@@ -1,7 +1,6 @@
 -- By the length of the name.
 use borrow.Author.Tests.{ne_eqb}
 use Rattle.additions.proofs.EntryLaws.{name-empty, name-moved}
-use borrow.Author.Rules.{rules}
 use Rattle.additions.proofs.entries.name_from.Goals as goal
 
 pub returns-then-name-eq0 : goal.returns-then-name-eq0

@@ -1,5 +1,4 @@
 -- By the new name first.
-use borrow.Author.Rules.{rules}
 use Rattle.additions.proofs.entries.replaces_forward.Goals as goal
 
 pub returns-then-has_reason : goal.returns-then-has_reason

@@ -1,5 +1,4 @@
 -- No records stand before the carved entries.
-use borrow.Author.Rules.{rules}
 use Rattle.entry_slots.specs.Table.{table}
 use Rattle.additions.proofs.SourceLaws.{room-carved}
 use Rattle.additions.proofs.room.carved_fit.Goals as goal

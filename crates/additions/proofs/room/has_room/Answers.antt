@@ -1,6 +1,5 @@
 -- Room for all entries is room for the new keys; else the count tells.
 use native.Mathlib.Omega.{arith}
-use borrow.Author.Rules.{rules}
 use Rattle.additions.specs.Sources.{source_at}
 use Rattle.additions.proofs.AdditionLaws.{room-for-all, room-counted, room-short}
 use Rattle.additions.proofs.room.has_room.Goals as goal

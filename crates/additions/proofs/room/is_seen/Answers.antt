@@ -1,9 +1,5 @@
-use Prim.Native.Nat.{◌-◌}
 use native.Mathlib.Omega.{arith}
-use borrow.Author.Rules.{rules}
-use Rattle.entry_slots.specs.Table.{table}
-use Rattle.additions.specs.Sources.{source_key}
-use Rattle.additions.proofs.AdditionLaws.{Looking, looking-start, looking-table, looking-next, looking-found, looking-end}
+use Rattle.additions.proofs.AdditionLaws.{looking-start, looking-table, looking-next, looking-found, looking-end}
 use Rattle.additions.proofs.room.is_seen.Goals as goal
 
 pub returns-in-At : goal.returns-in-At

@@ -1,10 +1,8 @@
 -- The invariant: the key is not in the table, nor among the entries passed.
 use Prim.Native.Nat.{◌-◌}
-use native.Mathlib.Omega.{arith}
-use borrow.Author.Rules.{rules}
 use Rattle.entry_slots.specs.Table.{table}
 use Rattle.additions.specs.Sources.{source_key}
-use Rattle.additions.proofs.AdditionLaws.{Looking, looking-start, looking-table, looking-next, looking-found, looking-end}
+use Rattle.additions.proofs.AdditionLaws.{Looking}
 use Rattle.additions.proofs.room.is_seen.Given as goal
 
 abbrev pub invariant-loop-j : goal.invariant-loop-j

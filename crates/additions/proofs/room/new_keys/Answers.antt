@@ -1,8 +1,5 @@
-use Prim.Native.Nat.{◌-◌}
 use native.Mathlib.Omega.{arith}
-use Rattle.entry_slots.specs.Table.{table}
-use Rattle.additions.specs.Sources.{source_at}
-use Rattle.additions.proofs.AdditionLaws.{Counting, counting-start, counting-new, counting-known, counting-end}
+use Rattle.additions.proofs.AdditionLaws.{counting-start, counting-new, counting-known, counting-end}
 use Rattle.additions.proofs.room.new_keys.Goals as goal
 use Rattle.additions.proofs.room.new_keys.Goals.{then-not-is_seen, else-not-is_seen}
 

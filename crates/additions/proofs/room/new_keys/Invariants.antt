@@ -1,11 +1,8 @@
 -- The invariant: the new keys counted, with those of the entries left, are all of them.
 use Prim.Native.Nat.{◌-◌}
-use native.Mathlib.Omega.{arith}
-use borrow.Author.Tests.{not-true, not-false}
-use mathlib.Core.Logic.{⊎_elim}
 use Rattle.entry_slots.specs.Table.{table}
 use Rattle.additions.specs.Sources.{source_at}
-use Rattle.additions.proofs.AdditionLaws.{Counting, counting-start, counting-new, counting-known, counting-end}
+use Rattle.additions.proofs.AdditionLaws.{Counting}
 use Rattle.additions.proofs.room.new_keys.Given as goal
 
 abbrev pub invariant-loop-i : goal.invariant-loop-i

@@ -1,5 +1,4 @@
 -- No carved entries stand behind the records.
-use borrow.Author.Rules.{rules}
 use Rattle.entry_slots.specs.Table.{table}
 use Rattle.additions.proofs.SourceLaws.{room-records}
 use Rattle.additions.proofs.room.records_fit.Goals as goal

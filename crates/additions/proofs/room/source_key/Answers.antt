@@ -1,6 +1,5 @@
 -- The key is a record's below their number, and a carved entry's from there on.
 use mathlib.Core.Path.{ap}
-use borrow.Author.Rules.{rules}
 use Rattle.additions.specs.declared.entries.RecordEntry.{RecordEntry}
 use Rattle.additions.proofs.SourceLaws.{key-of-record, key-of-carved}
 use Rattle.additions.proofs.room.source_key.Goals as goal

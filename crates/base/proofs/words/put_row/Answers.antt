@@ -1,5 +1,4 @@
 -- The words are stored from the front.
-use borrow.Author.Rules.{rules}
 use Rattle.base.proofs.WordLaws.{row_put}
 use Rattle.base.proofs.words.put_row.Goals as goal
 

@@ -1,5 +1,4 @@
 -- One row is stored from the front, and the other behind it.
-use borrow.Author.Rules.{rules}
 use Rattle.base.proofs.WordLaws.{rows-put}
 use Rattle.base.proofs.words.put_rows.Goals as goal
 

@@ -1,5 +1,4 @@
 -- Field by field.
-use borrow.Author.Rules.{rules}
 use Rattle.carved_seed.proofs.carved.info_of.Goals as goal
 
 pub returns : goal.returns

@@ -1,9 +1,7 @@
 -- By the answer so far and the name.
 use mathlib.Core.Path.{ap}
 use Rattle.entry_table.specs.Promise.{outcome}
-use borrow.Author.Tests.{not-true, not-false}
 use Rattle.carved_seed.proofs.WayLaws.{name-handed, name-tested}
-use borrow.Author.Rules.{rules}
 use Rattle.carved_seed.proofs.names.test_name.Goals as goal
 
 pub returns-then-not-is_inside : goal.returns-then-not-is_inside

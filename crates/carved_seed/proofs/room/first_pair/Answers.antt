@@ -2,7 +2,6 @@
 use mathlib.Core.Path.{ap}
 use Rattle.entry_table.specs.Promise.{outcome}
 use Rattle.carved_seed.proofs.WayLaws.{first-handed, first-bad, first-fit, first_count}
-use borrow.Author.Rules.{rules}
 use Rattle.carved_seed.proofs.room.first_pair.Goals as goal
 
 pub returns-then-slots-used : goal.returns-then-slots-used

@@ -1,6 +1,5 @@
 -- By whether it is the first comparison, and by the table.
 use Rattle.carved_seed.proofs.WayLaws.{asked-before, asked-known, asked-unknown}
-use borrow.Author.Rules.{rules}
 use Rattle.carved_seed.proofs.room.is_known_at.Goals as goal
 
 pub returns-then-j-ne0 : goal.returns-then-j-ne0

@@ -1,6 +1,5 @@
 -- By the table, whether all are compared, and the keys.
 use Rattle.carved_seed.proofs.WayLaws.{next_known, next-new, next-same, next-other}
-use borrow.Author.Rules.{rules}
 use Rattle.carved_seed.proofs.room.next_pair.Goals as goal
 
 pub returns-then-is_known_at : goal.returns-then-is_known_at

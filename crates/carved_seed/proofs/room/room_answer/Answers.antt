@@ -2,7 +2,6 @@
 use mathlib.Core.Path.{ap}
 use Rattle.entry_table.specs.Promise.{outcome}
 use Rattle.carved_seed.proofs.WayLaws.{answer-handed, answer-bad, answer-full, answer-room}
-use borrow.Author.Rules.{rules}
 use Rattle.carved_seed.proofs.room.room_answer.Goals as goal
 
 pub returns-then-slots-used : goal.returns-then-slots-used

@@ -1,13 +1,11 @@
 use mathlib.Core.Path.{refl, ap, ◌∙◌}
 use mathlib.Core.List.{List}
-use native.Mathlib.Omega.{arith}
 use lib.ListN.{length}
-use Rattle.entry_slots.specs.Slots.{slots_in}
 use Rattle.entry_slots.specs.Table.{Addition}
 use Rattle.entry_table.specs.Promise.{outcome}
 use Rattle.carved_seed.specs.Tests.{room_tested}
 use Rattle.carved_seed.proofs.EntryLaws.{added_at, whole-entries}
-use Rattle.carved_seed.proofs.PairLaws.{counts-first, counts-asks, counts-next, counts-over}
+use Rattle.carved_seed.proofs.PairLaws.{counts-first, counts-next, counts-over}
 use Rattle.carved_seed.proofs.room.test_room.Goals as goal
 
 pub loop-p-init : goal.loop-p-init

@@ -1,6 +1,5 @@
 -- Each way out by its tests.
 use mathlib.Core.Path.{sym, ◌∙◌}
-use borrow.Author.Rules.{rules}
 use Rattle.chain.proofs.ChainLaws.{step-deep, step-root, step-found}
 use Rattle.chain.proofs.steps.step.Goals as goal
 

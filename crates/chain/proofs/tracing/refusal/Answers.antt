@@ -1,8 +1,6 @@
 -- Each way out by its tests.
 use mathlib.Core.Path.{sym, ◌∙◌}
-use borrow.Author.Tests.{not-true, not-false}
 use Rattle.chain.proofs.CallLaws.{refusal-journal, refusal-image, refusal-state, refusal-outside, refusal-none}
-use borrow.Author.Rules.{rules}
 use Rattle.chain.proofs.tracing.refusal.Goals as goal
 
 pub returns-then-journal_length-gt-DOMAIN : goal.returns-then-journal_length-gt-DOMAIN

@@ -1,6 +1,5 @@
 -- Each call has a level less, and the slot that it stores goes behind those of the way so far; the last word gets the sum of what their names count for.
-use Prim.Native.Nat.{ℕ, ◌-◌, ◌<◌}
-use borrow.Author.Rules.{rules}
+use Prim.Native.Nat.{◌-◌}
 use mathlib.Core.Path.{sym, ◌∙◌}
 use native.Mathlib.Omega.{arith}
 use lib.ListN.{length-set}

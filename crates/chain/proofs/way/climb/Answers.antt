@@ -1,9 +1,6 @@
 -- The way from all levels on, and what it hangs under.
-use mathlib.Core.Path.{ap, ◌∙◌, sym}
 use native.Mathlib.Omega.{arith}
-use borrow.Author.Rules.{rules}
 use Rattle.entry_slots.specs.Table.{table}
-use Rattle.chain.specs.Way.{end_under}
 use Rattle.chain.proofs.WayLaws.{risen, risen-below, below-slots, end_is}
 use Rattle.chain.proofs.way.climb.Goals as goal
 

@@ -1,6 +1,5 @@
 -- The levels first, and then the root.
 use mathlib.Core.Path.{sym}
-use borrow.Author.Rules.{rules}
 use borrow.Author.Tests.{eq-eqb, ne_eqb}
 use Rattle.chain.proofs.way.end_under.Goals as goal
 

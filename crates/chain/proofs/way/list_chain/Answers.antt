@@ -3,7 +3,6 @@ use mathlib.Core.Path.{ap, ◌∙◌}
 use native.Mathlib.Omega.{arith}
 use Rattle.chain.specs.Tracing.{with_places}
 use Rattle.chain.proofs.WayLaws.{none-climbs, climbed-resolved, climbed-places, climbed-slots}
-use borrow.Author.Rules.{rules}
 use Rattle.chain.proofs.way.list_chain.Goals as goal
 
 pub climb-up-requires : goal.climb-up-requires

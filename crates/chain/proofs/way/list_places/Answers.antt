@@ -1,10 +1,7 @@
-use Prim.Native.Nat.{◌≤◌}
 use mathlib.Core.Path.{◌≡◌, ◌∙◌}
 use native.Mathlib.Omega.{arith}
-use borrow.Author.Rules.{rules}
-use Rattle.base.proofs.ListLaws.{Writing, writing_start, writing-skip, writing-room, writing-row}
+use Rattle.base.proofs.ListLaws.{writing_start, writing-skip, writing-room, writing-row}
 use Rattle.chain.specs.Chain.{source_words}
-use Rattle.chain.specs.Way.{way_places}
 use Rattle.chain.proofs.PlaceLaws.{place-row, listed-none, listed-all}
 use Rattle.chain.proofs.WayLaws.{places_count, places-less, places-none}
 use Rattle.chain.proofs.way.list_places.Goals as goal

@@ -1,6 +1,5 @@
 -- By whether the name is longer than any slice.
 use native.Mathlib.Omega.{arith}
-use borrow.Author.Rules.{rules}
 use Rattle.chain.proofs.WayLaws.{bound-short, bound-long}
 use Rattle.chain.proofs.way.step_bound.Goals as goal
 

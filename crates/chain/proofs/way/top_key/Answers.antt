@@ -1,7 +1,6 @@
 -- By whether the way has a slot.
 use mathlib.Core.Path.{ap, ◌∙◌, sym}
 use native.Mathlib.Omega.{arith}
-use borrow.Author.Rules.{rules}
 use borrow.Author.Tests.{eq-eqb, ne_eqb}
 use Rattle.entry_slots.specs.declared.EntryInfo.{EntryInfo}
 use Rattle.chain.proofs.way.top_key.Goals as goal

@@ -1,8 +1,7 @@
 use mathlib.Core.Path.{refl, ◌∙◌}
 use native.Mathlib.Omega.{arith}
-use Rattle.entry_slots.specs.Table.{table}
 use Rattle.entry_slots.proofs.IndexLaws.{links-index, no-heads, no-nexts}
-use Rattle.entry_slots.proofs.BuildLaws.{length-zeros, Built, built-none, built-below, built-more, built-all}
+use Rattle.entry_slots.proofs.BuildLaws.{length-zeros, built-none, built-below, built-more, built-all}
 use Rattle.entry_slots.proofs.links.build.Goals as goal
 
 pub returns-then-m-eq0 : goal.returns-then-m-eq0

@@ -1,9 +1,6 @@
 -- The invariant: the links are right for the slots from i on.
-use mathlib.Core.Path.{refl, ◌∙◌}
-use native.Mathlib.Omega.{arith}
 use Rattle.entry_slots.specs.Table.{table}
-use Rattle.entry_slots.proofs.IndexLaws.{links-index, no-heads, no-nexts}
-use Rattle.entry_slots.proofs.BuildLaws.{length-zeros, Built, built-none, built-below, built-more, built-all}
+use Rattle.entry_slots.proofs.BuildLaws.{Built}
 use Rattle.entry_slots.proofs.links.build.Given as goal
 
 abbrev pub invariant-loop-i : goal.invariant-loop-i

@@ -1,7 +1,5 @@
-use Prim.Native.Nat.{◌-◌}
 use native.Mathlib.Omega.{arith}
-use lib.ListN.{length}
-use Rattle.entry_slots.proofs.IndexLaws.{Cleared, cleared-start, cleared_more, cleared-all}
+use Rattle.entry_slots.proofs.IndexLaws.{cleared-start, cleared_more, cleared-all}
 use Rattle.entry_slots.proofs.links.clear.Goals as goal
 
 pub loop-i-init : goal.loop-i-init

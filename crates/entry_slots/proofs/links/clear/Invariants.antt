@@ -1,8 +1,7 @@
 -- The invariant: the words before i are 0.
 use Prim.Native.Nat.{◌-◌}
-use native.Mathlib.Omega.{arith}
 use lib.ListN.{length}
-use Rattle.entry_slots.proofs.IndexLaws.{Cleared, cleared-start, cleared_more, cleared-all}
+use Rattle.entry_slots.proofs.IndexLaws.{Cleared}
 use Rattle.entry_slots.proofs.links.clear.Given as goal
 
 abbrev pub invariant-loop-i : goal.invariant-loop-i

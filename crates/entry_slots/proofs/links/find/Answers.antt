@@ -1,6 +1,5 @@
 -- By what seeking says.
 use Rattle.entry_slots.proofs.ProbeLaws.{probed-hit, probed_none}
-use borrow.Author.Rules.{rules}
 use Rattle.entry_slots.proofs.links.find.Goals as goal
 
 pub returns-in-Hit : goal.returns-in-Hit

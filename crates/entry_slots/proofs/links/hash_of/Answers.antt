@@ -1,6 +1,5 @@
 -- The code is the definition's.
 use mathlib.Core.Path.{refl}
-use borrow.Author.Rules.{rules}
 use Rattle.entry_slots.specs.Index.{hash}
 use Rattle.entry_slots.proofs.links.hash_of.Goals as goal
 

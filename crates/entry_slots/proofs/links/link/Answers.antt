@@ -2,7 +2,6 @@
 use native.Mathlib.Omega.{arith}
 use lib.ListN.{length}
 use Rattle.entry_slots.proofs.IndexLaws.{hash-below, linked-first, linked-behind}
-use borrow.Author.Rules.{rules}
 use Rattle.entry_slots.proofs.links.link.Goals as goal
 
 pub offset_bounds-heads-hash_of : goal.offset_bounds-heads-hash_of

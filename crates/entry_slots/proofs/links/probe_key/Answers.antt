@@ -1,8 +1,6 @@
 use native.Mathlib.Omega.{arith}
-use lib.ListN.{length}
-use Rattle.entry_slots.specs.Table.{table}
 use Rattle.entry_slots.proofs.IndexLaws.{indexed-links}
-use Rattle.entry_slots.proofs.ProbeLaws.{left, Walking, walking-below, walking_start, walking-less, walking-next, walking-hit, walking-last}
+use Rattle.entry_slots.proofs.ProbeLaws.{walking-below, walking_start, walking-less, walking-next, walking-hit, walking-last}
 use Rattle.entry_slots.proofs.links.probe_key.Goals as goal
 
 pub hash_of-requires : goal.hash_of-requires

@@ -1,9 +1,7 @@
 -- The invariant: the walk stands at the link that follows the last one, and the key's slot is found from there on.
-use native.Mathlib.Omega.{arith}
 use lib.ListN.{length}
 use Rattle.entry_slots.specs.Table.{table}
-use Rattle.entry_slots.proofs.IndexLaws.{indexed-links}
-use Rattle.entry_slots.proofs.ProbeLaws.{left, Walking, walking-below, walking_start, walking-less, walking-next, walking-hit, walking-last}
+use Rattle.entry_slots.proofs.ProbeLaws.{left, Walking}
 use Rattle.entry_slots.proofs.links.probe_key.Given as goal
 
 abbrev pub invariant-loop-link : goal.invariant-loop-link

@@ -1,7 +1,6 @@
 -- By whether there are heads.
 use native.Mathlib.Omega.{arith}
 use Rattle.entry_slots.proofs.ProbeLaws.{found-hit, found_none}
-use borrow.Author.Rules.{rules}
 use Rattle.entry_slots.proofs.links.seek.Goals as goal
 
 pub probe_key-requires : goal.probe_key-requires

@@ -1,9 +1,5 @@
-use Prim.Native.Nat.{◌-◌}
 use native.Mathlib.Omega.{arith}
-use borrow.Author.Tests.{not-true, not-false}
-use Rattle.entry_slots.specs.Names.{lengths, inside}
-use Rattle.entry_slots.specs.Slots.{slot_name}
-use Rattle.entry_slots.proofs.NameLaws.{Passing, passing-start, passing-row, passing-outside, passing-end}
+use Rattle.entry_slots.proofs.NameLaws.{passing-start, passing-row, passing-outside, passing-end}
 use Rattle.entry_slots.proofs.names.all_inside.Goals as goal
 
 pub loop-i-init : goal.loop-i-init

@@ -1,10 +1,8 @@
 -- The invariant: the names passed are inside.
 use Prim.Native.Nat.{◌-◌}
-use native.Mathlib.Omega.{arith}
-use borrow.Author.Tests.{not-true, not-false}
 use Rattle.entry_slots.specs.Names.{lengths, inside}
 use Rattle.entry_slots.specs.Slots.{slot_name}
-use Rattle.entry_slots.proofs.NameLaws.{Passing, passing-start, passing-row, passing-outside, passing-end}
+use Rattle.entry_slots.proofs.NameLaws.{Passing}
 use Rattle.entry_slots.proofs.names.all_inside.Given as goal
 
 abbrev pub invariant-loop-i : goal.invariant-loop-i

@@ -1,6 +1,5 @@
 -- The length first, and then the offset, so that no sum can wrap.
 use Rattle.entry_slots.proofs.NameLaws.{inside-long, inside-else}
-use borrow.Author.Rules.{rules}
 use Rattle.entry_slots.proofs.names.is_inside.Goals as goal
 
 pub returns-then-end-name : goal.returns-then-end-name

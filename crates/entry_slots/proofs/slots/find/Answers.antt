@@ -1,6 +1,5 @@
-use Prim.Native.Nat.{◌-◌}
 use native.Mathlib.Omega.{arith}
-use Rattle.entry_slots.proofs.FindLaws.{Finding, finding-start, finding-slot, finding-found, finding-end}
+use Rattle.entry_slots.proofs.FindLaws.{finding-start, finding-slot, finding-found, finding-end}
 use Rattle.entry_slots.proofs.slots.find.Goals as goal
 
 pub loop-i-init : goal.loop-i-init

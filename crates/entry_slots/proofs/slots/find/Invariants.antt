@@ -1,7 +1,6 @@
 -- The invariant: the slots passed do not have the key.
 use Prim.Native.Nat.{◌-◌}
-use native.Mathlib.Omega.{arith}
-use Rattle.entry_slots.proofs.FindLaws.{Finding, finding-start, finding-slot, finding-found, finding-end}
+use Rattle.entry_slots.proofs.FindLaws.{Finding}
 use Rattle.entry_slots.proofs.slots.find.Given as goal
 
 abbrev pub invariant-loop-i : goal.invariant-loop-i

@@ -1,5 +1,4 @@
 -- The words are those of the slot.
-use borrow.Author.Rules.{rules}
 use Rattle.entry_slots.proofs.slots.info_at.Goals as goal
 
 pub returns : goal.returns

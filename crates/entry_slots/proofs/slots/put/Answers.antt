@@ -1,6 +1,5 @@
 -- The seven words are those of the entry.
 use Rattle.entry_slots.specs.Slots.{put_at}
-use borrow.Author.Rules.{rules}
 use Rattle.entry_slots.proofs.slots.put.Goals as goal
 
 pub returns : goal.returns

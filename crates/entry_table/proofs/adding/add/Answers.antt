@@ -2,7 +2,6 @@
 use mathlib.Core.List.{[]}
 use native.Mathlib.Omega.{arith}
 use Rattle.entry_slots.proofs.IndexLaws.{none-indexed}
-use borrow.Author.Rules.{rules}
 use Rattle.entry_table.proofs.adding.add.Goals as goal
 
 pub add_by-requires : goal.add_by-requires

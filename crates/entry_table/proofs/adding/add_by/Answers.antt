@@ -1,6 +1,5 @@
 -- The key is sought, and then the entry is stored.
 use native.Mathlib.Omega.{arith}
-use borrow.Author.Rules.{rules}
 use Rattle.entry_table.proofs.adding.add_by.Goals as goal
 
 pub seek-found-requires : goal.seek-found-requires

@@ -8,7 +8,6 @@ use Rattle.entry_slots.proofs.TableLaws.{find-used}
 use Rattle.additions.proofs.StoringLaws.{add-over, add_kept, add-new, add-full}
 use Rattle.entry_slots.proofs.ProbeLaws.{probed-hit, probed_none, probed-last, last_within}
 use Rattle.entry_table.proofs.AddingLaws.{stores-by, none_after, kept-over, index-more}
-use borrow.Author.Rules.{rules}
 use Rattle.entry_table.proofs.adding.add_found.Goals as goal
 
 pub put-requires : goal.put-requires

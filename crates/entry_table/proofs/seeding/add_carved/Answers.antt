@@ -1,14 +1,9 @@
-use Prim.Native.Nat.{◌-◌}
 use mathlib.Core.Path.{refl, ap}
 use native.Mathlib.Omega.{arith}
-use Rattle.entry_slots.specs.Table.{table}
 use Rattle.entry_table.specs.Promise.{outcome}
-use Rattle.additions.specs.Carved.{carved_at}
 use Rattle.additions.proofs.AdditionLaws.{rows_start, rows-refused, rows-added-all, same-addition}
 use Rattle.entry_table.proofs.AddingLaws.{stores-by}
-use Rattle.entry_table.proofs.SeedLaws.{Keeping, keeping-heads, keeping-nexts, keeping-index, keeping-next}
-use borrow.Author.Rules.{rules}
-use borrow.Author.Rules.{rules}
+use Rattle.entry_table.proofs.SeedLaws.{keeping-heads, keeping-nexts, keeping-index, keeping-next}
 use Rattle.entry_table.proofs.seeding.add_carved.Goals as goal
 
 pub loop-i-init : goal.loop-i-init

@@ -1,9 +1,7 @@
 -- Each way out by the tests that led to it.
 use native.Mathlib.Omega.{arith}
-use mathlib.Core.Path.{sym, ◌∙◌}
 use Rattle.mft_attributes.proofs.AttributeLaws.{few-left, marked, too_short, too_long, walked_on, walked-other}
 use Rattle.mft_sectors.proofs.SectorLaws.{length-restored}
-use borrow.Author.Rules.{rules}
 use Rattle.mft_attributes.proofs.attributes.attribute_step.Goals as goal
 
 pub returns-then-end-lt8 : goal.returns-then-end-lt8

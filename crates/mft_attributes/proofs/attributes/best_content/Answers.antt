@@ -1,10 +1,7 @@
-use borrow.Author.Rules.{rules}
 use native.Mathlib.Omega.{arith}
-use Rattle.mft_sectors.specs.SectorEnds.{restored_by}
 use Rattle.mft_sectors.proofs.SectorLaws.{length-restored}
-use Rattle.mft_attributes.specs.Step.{kept_at}
 use Rattle.mft_attributes.proofs.LieLaws.{content-inside}
-use Rattle.mft_attributes.proofs.FilenameLaws.{Keeping, keeping_start, keeping_none, keeping-end, keeping-other, keeping-named}
+use Rattle.mft_attributes.proofs.FilenameLaws.{keeping_start, keeping_none, keeping-end, keeping-other, keeping-named}
 use Rattle.mft_attributes.proofs.attributes.best_content.Goals as goal
 
 pub loop-left-init : goal.loop-left-init

@@ -1,7 +1,6 @@
 -- What is kept, by where it lies.
 use Rattle.mft_attributes.proofs.FilenameLaws.{kept-name, kept-none}
 use Rattle.mft_sectors.proofs.SectorLaws.{length-restored}
-use borrow.Author.Rules.{rules}
 use Rattle.mft_attributes.proofs.attributes.best_filename.Goals as goal
 
 pub returns-then-c-entry : goal.returns-then-c-entry

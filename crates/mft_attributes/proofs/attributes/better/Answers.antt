@@ -2,7 +2,6 @@
 use native.Mathlib.Omega.{arith}
 use Rattle.mft_attributes.proofs.FilenameLaws.{better-first, better-new, better-old}
 use Rattle.mft_sectors.proofs.SectorLaws.{length-restored}
-use borrow.Author.Rules.{rules}
 use Rattle.mft_attributes.proofs.attributes.better.Goals as goal
 
 pub returns-then-entry-best : goal.returns-then-entry-best

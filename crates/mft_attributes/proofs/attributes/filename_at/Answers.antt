@@ -1,6 +1,5 @@
 -- The fields as they were read.
 use Rattle.mft_attributes.proofs.AttributeLaws.{assembled}
-use borrow.Author.Rules.{rules}
 use Rattle.mft_attributes.proofs.attributes.filename_at.Goals as goal
 
 pub returns : goal.returns

@@ -2,7 +2,6 @@
 use native.Mathlib.Omega.{arith}
 use Rattle.mft_attributes.proofs.AttributeLaws.{flag-past, non-resident, short-content, past-content, no-units, past-name, gives-name, stepped}
 use Rattle.mft_sectors.proofs.SectorLaws.{length-restored}
-use borrow.Author.Rules.{rules}
 use Rattle.mft_attributes.proofs.attributes.filename_step.Goals as goal
 
 pub returns-then-entry-a-le8 : goal.returns-then-entry-a-le8

@@ -5,7 +5,6 @@ use native.Mathlib.Omega.{arith}
 use Rattle.mft_sectors.proofs.SectorLaws.{length-restored}
 use Rattle.mft_attributes.proofs.LieLaws.{found-lies}
 use Rattle.mft_carver.proofs.EntryLaws.{never-used, first_below, first_above, unsound, rejected-nameless, carved-entry}
-use borrow.Author.Rules.{rules}
 use Rattle.mft_carver.proofs.entry.try_carve_entry.Goals as goal
 
 pub returns-then-sequence-eq0 : goal.returns-then-sequence-eq0

@@ -1,10 +1,6 @@
-use Prim.Native.Nat.{◌-◌}
-use mathlib.Core.Path.{ap}
 use native.Mathlib.Omega.{arith}
-use lib.ListN.{length}
-use borrow.Author.Rules.{rules}
 use Rattle.mft_carver.proofs.RunLaws.{rest}
-use Rattle.mft_carver.proofs.FillLaws.{written_same, Passing, passing-start, passing-pass, passing-rejected, passing-room, passing-carved, passing-end}
+use Rattle.mft_carver.proofs.FillLaws.{written_same, passing-start, passing-pass, passing-rejected, passing-room, passing-carved, passing-end}
 use Rattle.mft_carver.proofs.fill.carve_through.Goals as goal
 
 pub nothing_met-stats-requires : goal.nothing_met-stats-requires

@@ -2,7 +2,6 @@
 use mathlib.Core.Path.{ap, sym}
 use mathlib.Core.Bool.{true≢false}
 use Rattle.mft_carver.specs.declared.MftCarvingStats.{MftCarvingStats}
-use borrow.Author.Rules.{rules}
 use Rattle.mft_carver.proofs.fill.count_entries.Goals as goal
 
 pub carve_through-stats-requires : goal.carve_through-stats-requires

@@ -1,6 +1,5 @@
 -- The fields are the words.
 use Rattle.mft_carver.proofs.FillLaws.{row_made}
-use borrow.Author.Rules.{rules}
 use Rattle.mft_carver.proofs.fill.entry_row.Goals as goal
 
 pub returns : goal.returns

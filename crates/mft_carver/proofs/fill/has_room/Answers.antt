@@ -4,7 +4,6 @@ use mathlib.Core.Path.{sym, ap}
 use lib.Dec.{leb}
 use borrow.Author.Tests.{le-leb}
 use Rattle.mft_carver.proofs.RunLaws.{room-enough}
-use borrow.Author.Rules.{rules}
 use Rattle.mft_carver.proofs.fill.has_room.Goals as goal
 
 pub returns-then-image-settings : goal.returns-then-image-settings

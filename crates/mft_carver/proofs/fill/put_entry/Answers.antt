@@ -2,9 +2,7 @@
 use native.Mathlib.Omega.{arith}
 use mathlib.Core.Path.{ap}
 use lib.ListN.{length}
-use borrow.Author.Tests.{not-true, not-false}
 use Rattle.mft_carver.proofs.FillLaws.{put-none, put-row}
-use borrow.Author.Rules.{rules}
 use Rattle.mft_carver.proofs.fill.put_entry.Goals as goal
 
 pub returns-then-not-writes : goal.returns-then-not-writes

@@ -1,7 +1,6 @@
 -- Each way out by the tests that led to it; the entry is lent as a part of the image.
 use native.Mathlib.Omega.{arith}
 use Rattle.mft_carver.proofs.RunLaws.{stopped, no-candidate, candidate, event-of}
-use borrow.Author.Rules.{rules}
 use Rattle.mft_carver.proofs.step.carve_step.Goals as goal
 
 pub returns-then-end-size : goal.returns-then-end-size

@@ -3,7 +3,6 @@ use mathlib.Core.Path.{sym, ◌∙◌}
 use native.Mathlib.Omega.{arith}
 use Rattle.usn_record.proofs.ByteLaws.{read_past}
 use Rattle.mft_sectors.proofs.SectorLaws.{length-restored, home-end, read-body, read-home}
-use borrow.Author.Rules.{rules}
 use Rattle.mft_sectors.proofs.reads.later_byte.Goals as goal
 
 pub returns-then-entry-offset : goal.returns-then-entry-offset

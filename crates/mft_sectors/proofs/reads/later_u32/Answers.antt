@@ -3,7 +3,6 @@ use mathlib.Core.Path.{sym, ◌∙◌}
 use native.Mathlib.Omega.{arith}
 use Rattle.usn_record.proofs.ByteLaws.{read_past, read_join}
 use Rattle.mft_sectors.proofs.SectorLaws.{length-restored, read-body}
-use borrow.Author.Rules.{rules}
 use Rattle.mft_sectors.proofs.reads.later_u32.Goals as goal
 
 pub returns-then-offset : goal.returns-then-offset

@@ -2,7 +2,6 @@
 use mathlib.Core.Path.{◌∙◌}
 use native.Mathlib.Omega.{arith}
 use Rattle.mft_sectors.proofs.SectorLaws.{read-body}
-use borrow.Author.Rules.{rules}
 use Rattle.mft_sectors.proofs.reads.restored_u16.Goals as goal
 
 pub returns-then-offset : goal.returns-then-offset

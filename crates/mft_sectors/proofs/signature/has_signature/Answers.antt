@@ -1,6 +1,5 @@
 -- The bytes in turn; the first that differs decides.
 use Rattle.mft_sectors.proofs.SignatureLaws.{not-F, not-FI, not-FIL, by-E}
-use borrow.Author.Rules.{rules}
 use Rattle.mft_sectors.proofs.signature.has_signature.Goals as goal
 
 pub returns-then-byte_at-file : goal.returns-then-byte_at-file

@@ -1,8 +1,5 @@
-use Prim.Native.Nat.{◌/◌, ◌≤◌}
-use mathlib.Core.Path.{◌≡◌, refl, sym, ◌∙◌}
+use mathlib.Core.Path.{refl, sym, ◌∙◌}
 use native.Mathlib.Omega.{arith}
-use lib.ListN.{length}
-use Rattle.mft_sectors.specs.SectorEnds.{sector, ending}
 use Rattle.mft_sectors.proofs.SectorLaws.{ending-none, ending-next, ending-not}
 use Rattle.mft_sectors.proofs.sound.all_end.Goals as goal
 

@@ -1,10 +1,8 @@
 -- The invariant: the sectors that are left decide.
 use Prim.Native.Nat.{◌/◌, ◌≤◌}
-use mathlib.Core.Path.{◌≡◌, refl, sym, ◌∙◌}
-use native.Mathlib.Omega.{arith}
+use mathlib.Core.Path.{◌≡◌}
 use lib.ListN.{length}
 use Rattle.mft_sectors.specs.SectorEnds.{sector, ending}
-use Rattle.mft_sectors.proofs.SectorLaws.{ending-none, ending-next, ending-not}
 use Rattle.mft_sectors.proofs.sound.all_end.Given as goal
 
 abbrev pub invariant-loop-k : goal.invariant-loop-k

@@ -1,7 +1,6 @@
 -- Each way out by the tests that led to it.
 use native.Mathlib.Omega.{arith}
 use Rattle.mft_sectors.proofs.SectorLaws.{other-count, odd-offset, offset-below, past_first, past-body, by-ends}
-use borrow.Author.Rules.{rules}
 use Rattle.mft_sectors.proofs.sound.is_sound.Goals as goal
 
 pub returns-then-count-entry : goal.returns-then-count-entry

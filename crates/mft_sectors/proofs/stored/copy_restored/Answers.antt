@@ -1,6 +1,5 @@
-use Prim.Native.Nat.{◌-◌, ◌≤◌}
 use native.Mathlib.Omega.{arith}
-use Rattle.mft_sectors.proofs.CopyLaws.{Restoring, restoring-start, restoring-byte, restoring-end}
+use Rattle.mft_sectors.proofs.CopyLaws.{restoring-start, restoring-byte, restoring-end}
 use Rattle.mft_sectors.proofs.stored.copy_restored.Goals as goal
 
 pub loop-k-init : goal.loop-k-init

@@ -1,7 +1,6 @@
 -- The invariant: the bytes copied so far, with what is still to be copied, are all of them.
 use Prim.Native.Nat.{◌-◌, ◌≤◌}
-use native.Mathlib.Omega.{arith}
-use Rattle.mft_sectors.proofs.CopyLaws.{Restoring, restoring-start, restoring-byte, restoring-end}
+use Rattle.mft_sectors.proofs.CopyLaws.{Restoring}
 use Rattle.mft_sectors.proofs.stored.copy_restored.Given as goal
 
 abbrev pub invariant-loop-k : goal.invariant-loop-k

@@ -3,7 +3,6 @@ use mathlib.Core.Path.{ap}
 use mathlib.Core.Bool.{not}
 use native.Mathlib.Omega.{arith}
 use Rattle.mft_sectors.proofs.StoredLaws.{start-before, past-image, past-entry, no-signature, by-array}
-use borrow.Author.Rules.{rules}
 use Rattle.mft_sectors.proofs.stored.in_entry.Goals as goal
 
 pub overflow_mul-start : goal.overflow_mul-start

@@ -2,7 +2,6 @@
 use native.Mathlib.Omega.{arith}
 use Rattle.mft_sectors.proofs.StoredLaws.{start-before, inside-says}
 use Rattle.mft_sectors.proofs.CopyLaws.{ends-lent, restored-put}
-use borrow.Author.Rules.{rules}
 use Rattle.mft_sectors.proofs.stored.put_restored.Goals as goal
 
 pub overflow_mul-start : goal.overflow_mul-start

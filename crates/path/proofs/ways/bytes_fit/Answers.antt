@@ -1,11 +1,9 @@
-use Prim.Native.Nat.{◌+◌, ◌≤◌}
-use mathlib.Core.Path.{◌≡◌, ap}
+use mathlib.Core.Path.{ap}
 use native.Mathlib.Omega.{arith}
-use borrow.Author.Rules.{rules}
 use Rattle.entry_slots.specs.declared.EntryInfo.{EntryInfo}
-use Rattle.chain.specs.Way.{way_places, chain_by}
+use Rattle.chain.specs.Way.{chain_by}
 use lib.ListN.{length}
-use Rattle.path_text.specs.Text.{names_text, place_text, path_text}
+use Rattle.path_text.specs.Text.{place_text, path_text}
 use Rattle.path_text.proofs.NameLaws.{place-least}
 use Rattle.path.proofs.BoundLaws.{fits-so, fits_not, bytes-less, text-none, path-long}
 use Rattle.path.proofs.ways.bytes_fit.Goals as goal

@@ -1,14 +1,9 @@
 -- The invariant: the bytes of the names left, with what is spent, are those of all. A name that is not counted has more units than there is room.
 use Prim.Native.Nat.{◌+◌, ◌≤◌}
-use mathlib.Core.Path.{◌≡◌, ap}
-use native.Mathlib.Omega.{arith}
-use borrow.Author.Rules.{rules}
-use Rattle.entry_slots.specs.declared.EntryInfo.{EntryInfo}
-use Rattle.chain.specs.Way.{way_places, chain_by}
+use mathlib.Core.Path.{◌≡◌}
+use Rattle.chain.specs.Way.{way_places}
 use lib.ListN.{length}
-use Rattle.path_text.specs.Text.{names_text, place_text, path_text}
-use Rattle.path_text.proofs.NameLaws.{place-least}
-use Rattle.path.proofs.BoundLaws.{fits-so, fits_not, bytes-less, text-none, path-long}
+use Rattle.path_text.specs.Text.{names_text}
 use Rattle.path.proofs.ways.bytes_fit.Given as goal
 
 abbrev pub invariant-loop-left : goal.invariant-loop-left

@@ -1,8 +1,7 @@
 -- The most is enough; otherwise the bytes of the own name come first, and the path has what they leave.
 use Prim.Native.Nat.{◌+◌, ◌-◌}
-use mathlib.Core.Path.{ap, sym, ◌∙◌}
+use mathlib.Core.Path.{sym, ◌∙◌}
 use native.Mathlib.Omega.{arith}
-use borrow.Author.Rules.{rules}
 use borrow.Author.Tests.{leb-true}
 use lib.ListN.{length}
 use Rattle.chain.specs.Way.{chain_by}

@@ -1,8 +1,4 @@
 -- By whether the entry's path has room: the parent's path first, and then the own name.
-use native.Mathlib.Omega.{arith}
-use borrow.Author.Rules.{rules}
-use borrow.Author.Tests.{not-true, not-false}
-use lib.ListN.{length}
 use Rattle.chain.specs.Way.{chain_by}
 use Rattle.path_text.specs.Text.{path_text, step_text}
 use Rattle.path_text.proofs.MarkerLaws.{first-room, second-room, both-put}

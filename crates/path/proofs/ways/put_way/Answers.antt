@@ -1,7 +1,6 @@
-use Prim.Native.Nat.{◌-◌, ◌≤◌}
+use Prim.Native.Nat.{◌-◌}
 use mathlib.Core.Path.{refl, ap}
 use native.Mathlib.Omega.{arith}
-use borrow.Author.Rules.{rules}
 use lib.ListN.{length, get_or}
 use lib.Seq.{length-sets}
 use Rattle.entry_slots.specs.Slots.{slot_name}
@@ -9,7 +8,7 @@ use Rattle.chain.specs.Way.{way_places, chain_by}
 use Rattle.path_text.specs.Text.{end_text, step_text, names_text}
 use Rattle.path_text.proofs.MarkerLaws.{both-put}
 use Rattle.path.proofs.BoundLaws.{text-less, text-none, path-parts, path-long}
-use Rattle.path.proofs.WayLaws.{WayText, way-text-room, way-text-more, way-text-end}
+use Rattle.path.proofs.WayLaws.{way-text-room, way-text-more, way-text-end}
 use Rattle.path.proofs.ways.put_way.Goals as goal
 
 pub put_end-to-requires : goal.put_end-to-requires

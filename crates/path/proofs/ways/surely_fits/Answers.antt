@@ -1,7 +1,6 @@
 -- The bound first, so that no sum can wrap.
 use Prim.Native.Nat.{◌+◌}
 use native.Mathlib.Omega.{arith}
-use borrow.Author.Rules.{rules}
 use lib.ListN.{length}
 use Rattle.path_text.specs.Text.{end_text}
 use Rattle.path.proofs.BoundLaws.{fits_not, fits-less}

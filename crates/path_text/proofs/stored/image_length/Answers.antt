@@ -1,6 +1,5 @@
 -- By whether the name is read from a restored entry.
 use mathlib.Core.Path.{ap, sym, ◌∙◌}
-use borrow.Author.Rules.{rules}
 use lib.ListN.{length}
 use Rattle.path_text.proofs.stored.image_length.Goals as goal
 

@@ -1,6 +1,5 @@
 -- Each way out by the tests that led to it.
 use native.Mathlib.Omega.{arith}
-use borrow.Author.Rules.{rules}
 use Rattle.path_text.proofs.ImageLaws.{not-met, by-entry}
 use Rattle.path_text.proofs.stored.is_restored.Goals as goal
 

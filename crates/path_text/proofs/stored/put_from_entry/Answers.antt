@@ -4,7 +4,6 @@ use native.Mathlib.Omega.{arith}
 use lib.ListN.{length}
 use Rattle.utf16.proofs.PutLaws.{put_as}
 use Rattle.path_text.proofs.ImageLaws.{entry-room, copied-long, copied-text}
-use borrow.Author.Rules.{rules}
 use Rattle.path_text.proofs.stored.put_from_entry.Goals as goal
 
 pub put_restored-requires : goal.put_restored-requires

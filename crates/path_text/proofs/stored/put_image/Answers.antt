@@ -1,7 +1,6 @@
 -- By whether the name is read from a restored entry.
 use mathlib.Core.Path.{ap}
 use native.Mathlib.Omega.{arith}
-use borrow.Author.Rules.{rules}
 use lib.ListN.{length}
 use Rattle.utf16.proofs.PutLaws.{put_as}
 use Rattle.path_text.proofs.stored.put_image.Goals as goal

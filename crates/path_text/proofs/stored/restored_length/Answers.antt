@@ -3,7 +3,6 @@ use mathlib.Core.Path.{ap, sym, ◌∙◌}
 use native.Mathlib.Omega.{arith}
 use lib.ListN.{length}
 use Rattle.path_text.proofs.ImageLaws.{entry-room, copied-long, copied-text}
-use borrow.Author.Rules.{rules}
 use Rattle.path_text.proofs.stored.restored_length.Goals as goal
 
 pub put_restored-requires : goal.put_restored-requires

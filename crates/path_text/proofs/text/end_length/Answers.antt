@@ -1,7 +1,6 @@
 -- By the end's cases.
 use mathlib.Core.Path.{ap, sym}
 use native.Mathlib.Omega.{arith}
-use borrow.Author.Rules.{rules}
 use lib.ListN.{length}
 use Rattle.path_text.proofs.MarkerLaws.{end-root, unknown-long, unresolved-long}
 use Rattle.path_text.proofs.text.end_length.Goals as goal

@@ -1,6 +1,5 @@
 -- A number has few digits.
 use native.Mathlib.Omega.{arith}
-use borrow.Author.Rules.{rules}
 use Rattle.path_text.proofs.MarkerLaws.{decimal-tenth, key-long}
 use Rattle.path_text.proofs.text.key_length.Goals as goal
 

@@ -1,7 +1,6 @@
 -- By the end's cases: a full stop, or a word and the key.
 use mathlib.Core.Path.{ap}
 use native.Mathlib.Omega.{arith}
-use borrow.Author.Rules.{rules}
 use lib.ListN.{length}
 use Rattle.utf16.proofs.PutLaws.{put_as}
 use Rattle.path_text.specs.Text.{unknown_word, unresolved_word, key_text}

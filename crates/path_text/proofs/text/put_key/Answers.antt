@@ -1,5 +1,4 @@
 -- Four writes, one after the other.
-use borrow.Author.Rules.{rules}
 use Rattle.path_text.proofs.MarkerLaws.{key-entry, key-colon, key-sequence, key-bracket, key-put}
 use Rattle.path_text.proofs.text.put_key.Goals as goal
 

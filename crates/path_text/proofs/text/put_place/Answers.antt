@@ -1,7 +1,6 @@
 -- By the source.
 use native.Mathlib.Omega.{arith}
 use mathlib.Core.Path.{ap}
-use borrow.Author.Rules.{rules}
 use lib.ListN.{length}
 use Rattle.utf16.proofs.PutLaws.{put_as}
 use Rattle.path_text.proofs.NameLaws.{journal-text, journal-inside, image-text, image-inside}

@@ -1,7 +1,6 @@
 -- A backslash, and then the name.
 use mathlib.Core.List.{[], ◌∷◌}
 use native.Mathlib.Omega.{arith}
-use borrow.Author.Rules.{rules}
 use Rattle.path_text.specs.Text.{place_text}
 use Rattle.path_text.proofs.MarkerLaws.{second-room, both-put}
 use Rattle.path_text.proofs.NameLaws.{step-parts, step-long}

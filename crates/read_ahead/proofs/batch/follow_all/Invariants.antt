@@ -1,6 +1,5 @@
 -- The invariant: a byte is added for each way.
 use Prim.Native.Nat.{◌-◌, ◌*◌, ◌≤◌}
-use native.Mathlib.Omega.{arith}
 use Rattle.read_ahead.proofs.batch.follow_all.Given as goal
 
 abbrev pub invariant-loop-x : goal.invariant-loop-x

@@ -2,7 +2,6 @@
 use native.Mathlib.Omega.{arith}
 use lib.ListN.{length}
 use Rattle.entry_slots.proofs.IndexLaws.{hash-below}
-use borrow.Author.Rules.{rules}
 use Rattle.read_ahead.proofs.batch.link_of.Goals as goal
 
 pub offset_bounds-heads-hash_of : goal.offset_bounds-heads-hash_of

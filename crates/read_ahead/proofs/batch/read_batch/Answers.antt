@@ -1,6 +1,4 @@
-use Prim.Native.Nat.{◌-◌, ◌+◌, ◌*◌, ◌≤◌}
 use native.Mathlib.Omega.{arith}
-use Rattle.read_ahead.specs.Reading.{batch}
 use Rattle.read_ahead.proofs.batch.read_batch.Goals as goal
 
 pub set_out_all-files-requires : goal.set_out_all-files-requires

@@ -1,6 +1,5 @@
 -- The invariant: the sum stays small, and there are no more ways than a batch has.
 use Prim.Native.Nat.{◌-◌, ◌+◌, ◌*◌, ◌≤◌}
-use native.Mathlib.Omega.{arith}
 use Rattle.read_ahead.specs.Reading.{batch}
 use Rattle.read_ahead.proofs.batch.read_batch.Given as goal
 

@@ -1,4 +1,3 @@
-use Prim.Native.Nat.{◌-◌, ◌*◌, ◌≤◌}
 use native.Mathlib.Omega.{arith}
 use Rattle.read_ahead.proofs.batch.rise_all.Goals as goal
 

@@ -1,6 +1,5 @@
 -- The invariant: a byte is added for each way, and no more lead on than were met.
 use Prim.Native.Nat.{◌-◌, ◌*◌, ◌≤◌}
-use native.Mathlib.Omega.{arith}
 use Rattle.read_ahead.proofs.batch.rise_all.Given as goal
 
 abbrev pub invariant-loop-x : goal.invariant-loop-x

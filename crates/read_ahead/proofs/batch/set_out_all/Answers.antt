@@ -1,6 +1,4 @@
-use Prim.Native.Nat.{◌-◌, ◌/◌, ◌≤◌}
 use native.Mathlib.Omega.{arith}
-use lib.ListN.{length}
 use Rattle.read_ahead.proofs.batch.set_out_all.Goals as goal
 
 pub loop-x-init : goal.loop-x-init

@@ -1,6 +1,5 @@
 -- The invariant: no more ways than records that were met.
 use Prim.Native.Nat.{◌-◌, ◌/◌, ◌≤◌}
-use native.Mathlib.Omega.{arith}
 use lib.ListN.{length}
 use Rattle.read_ahead.proofs.batch.set_out_all.Given as goal
 

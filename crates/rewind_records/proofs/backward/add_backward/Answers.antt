@@ -1,14 +1,10 @@
-use Prim.Native.Nat.{◌-◌}
 use mathlib.Core.Path.{refl, ap}
 use native.Mathlib.Omega.{arith}
-use Rattle.entry_slots.specs.Table.{table}
 use Rattle.entry_table.specs.Promise.{outcome}
 use Rattle.additions.proofs.AdditionLaws.{rows_start, rows-refused, rows-added-all}
 use Rattle.entry_table.proofs.AddingLaws.{stores-by}
-use Rattle.entry_table.proofs.SeedLaws.{Keeping, keeping-heads, keeping-nexts, keeping-index, keeping-next}
-use Rattle.additions.specs.Walking.{last_added}
+use Rattle.entry_table.proofs.SeedLaws.{keeping-heads, keeping-nexts, keeping-index, keeping-next}
 use Rattle.additions.proofs.EntryLaws.{added-backward}
-use borrow.Author.Rules.{rules}
 use Rattle.rewind_records.proofs.backward.add_backward.Goals as goal
 
 pub loop-i-init : goal.loop-i-init

@@ -1,15 +1,8 @@
 -- The invariant: the records left have room and lead to where all of them lead, and the index is that of the table.
 use Prim.Native.Nat.{◌-◌}
-use mathlib.Core.Path.{refl, ap}
-use native.Mathlib.Omega.{arith}
 use Rattle.entry_slots.specs.Table.{table}
-use Rattle.entry_table.specs.Promise.{outcome}
-use Rattle.additions.proofs.AdditionLaws.{rows_start, rows-refused, rows-added-all}
-use Rattle.entry_table.proofs.AddingLaws.{stores-by}
-use Rattle.entry_table.proofs.SeedLaws.{Keeping, keeping-heads, keeping-nexts, keeping-index, keeping-next}
+use Rattle.entry_table.proofs.SeedLaws.{Keeping}
 use Rattle.additions.specs.Walking.{last_added}
-use Rattle.additions.proofs.EntryLaws.{added-backward}
-use borrow.Author.Rules.{rules}
 use Rattle.rewind_records.proofs.backward.add_backward.Given as goal
 
 abbrev pub invariant-loop-i : goal.invariant-loop-i

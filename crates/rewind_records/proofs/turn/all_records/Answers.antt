@@ -1,10 +1,7 @@
-use Prim.Native.Nat.{◌-◌}
 use mathlib.Core.Path.{refl}
 use native.Mathlib.Omega.{arith}
-use borrow.Author.Tests.{not-true, not-false}
-use Rattle.usn_record.specs.Record.{is_answered}
-use Rattle.entry_slots.proofs.NameLaws.{Passing, passing-start, passing-row, passing-outside, passing-end}
-use Rattle.rewind_records.proofs.RecordLaws.{at_number, records-test}
+use Rattle.entry_slots.proofs.NameLaws.{passing-start, passing-row, passing-outside, passing-end}
+use Rattle.rewind_records.proofs.RecordLaws.{records-test}
 use Rattle.rewind_records.proofs.turn.all_records.Goals as goal
 
 pub loop-i-init : goal.loop-i-init

@@ -1,11 +1,8 @@
 -- The invariant: the offsets passed are those of records.
 use Prim.Native.Nat.{◌-◌}
-use mathlib.Core.Path.{refl}
-use native.Mathlib.Omega.{arith}
-use borrow.Author.Tests.{not-true, not-false}
 use Rattle.usn_record.specs.Record.{is_answered}
-use Rattle.entry_slots.proofs.NameLaws.{Passing, passing-start, passing-row, passing-outside, passing-end}
-use Rattle.rewind_records.proofs.RecordLaws.{at_number, records-test}
+use Rattle.entry_slots.proofs.NameLaws.{Passing}
+use Rattle.rewind_records.proofs.RecordLaws.{at_number}
 use Rattle.rewind_records.proofs.turn.all_records.Given as goal
 
 abbrev pub invariant-loop-i : goal.invariant-loop-i

@@ -1,6 +1,5 @@
 -- An entry is known where a record is listed.
 use Rattle.additions.proofs.EntryLaws.{record-tested}
-use borrow.Author.Rules.{rules}
 use Rattle.rewind_records.proofs.turn.is_record.Goals as goal
 
 pub returns : goal.returns

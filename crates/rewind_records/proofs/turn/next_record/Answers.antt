@@ -1,7 +1,6 @@
 -- After the tests, by the position.
 use native.Mathlib.Omega.{arith}
 use Rattle.rewind_records.proofs.TurnLaws.{turn-refused, turn_end, turn-next}
-use borrow.Author.Rules.{rules}
 use Rattle.rewind_records.proofs.turn.next_record.Goals as goal
 
 pub returns-then-refused-ne0 : goal.returns-then-refused-ne0

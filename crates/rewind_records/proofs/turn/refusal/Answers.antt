@@ -1,6 +1,5 @@
 -- By the first test that refuses.
 use native.Mathlib.Omega.{arith}
-use borrow.Author.Tests.{not-true, not-false}
 use Rattle.entry_slots.specs.Table.{table}
 use Rattle.rewind_records.specs.Environment.{environment_with}
 use Rattle.rewind_records.proofs.TurnLaws.{test-journal, test-image, test-state, test-records, test-names, test-none}

@@ -1,5 +1,4 @@
 -- The counters' words, or the refusal.
-use borrow.Author.Rules.{rules}
 use mathlib.Core.Path.{ap}
 use Rattle.base.proofs.WordLaws.{row_out}
 use Rattle.usn_carver.specs.Carve.{outcome}

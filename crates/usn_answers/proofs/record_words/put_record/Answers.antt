@@ -1,5 +1,4 @@
 -- The record's words, or the refusal.
-use borrow.Author.Rules.{rules}
 use mathlib.Core.Path.{ap}
 use Rattle.base.proofs.WordLaws.{row_out}
 use Rattle.usn_record.specs.Record.{outcome, record_words}

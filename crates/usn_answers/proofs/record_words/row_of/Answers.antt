@@ -1,5 +1,4 @@
 -- The words are the fields in their order.
-use borrow.Author.Rules.{rules}
 use native.Mathlib.Omega.{arith}
 use Rattle.usn_answers.proofs.RecordLaws.{row_made}
 use Rattle.usn_answers.proofs.record_words.row_of.Goals as goal

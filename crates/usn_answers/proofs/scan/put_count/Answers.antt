@@ -1,5 +1,4 @@
 -- The number of records, or the refusal.
-use borrow.Author.Rules.{rules}
 use mathlib.Core.Path.{refl, ap}
 use Rattle.base.proofs.WordLaws.{row_out}
 use Rattle.base.specs.Words.{count_words}

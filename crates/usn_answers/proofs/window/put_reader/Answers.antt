@@ -1,5 +1,4 @@
 -- The row is the window's.
-use borrow.Author.Rules.{rules}
 use mathlib.Core.Path.{refl}
 use Rattle.base.proofs.WordLaws.{row_out}
 use Rattle.usn_answers.specs.Window.{reader_words}

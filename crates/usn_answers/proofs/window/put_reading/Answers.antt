@@ -1,5 +1,4 @@
 -- Each case of the answer, with its words.
-use borrow.Author.Rules.{rules}
 use Rattle.usn_answers.proofs.WindowLaws.{reading-refused, reading-end, reading-wants, reading-record}
 use Rattle.usn_answers.proofs.window.put_reading.Goals as goal
 

@@ -1,5 +1,4 @@
 -- The words are the numbers in their order.
-use borrow.Author.Rules.{rules}
 use Rattle.usn_answers.proofs.WindowLaws.{reader-made}
 use Rattle.usn_answers.proofs.window.reader_row.Goals as goal
 

@@ -1,10 +1,6 @@
-use Prim.Native.Nat.{◌-◌}
 use native.Mathlib.Omega.{arith}
-use lib.ListN.{length}
-use borrow.Author.Rules.{rules}
-use Rattle.usn_carver.specs.Settings.{settings_of}
 use Rattle.usn_carver.proofs.RunLaws.{rest}
-use Rattle.usn_carver.proofs.FillLaws.{Counting, counted, counting-skip}
+use Rattle.usn_carver.proofs.FillLaws.{counted, counting-skip}
 use Rattle.usn_carver.proofs.fill.count_records.Goals as goal
 
 pub loop-next-init : goal.loop-next-init

@@ -1,11 +1,8 @@
 -- The invariant: the records counted, with those from o on, are all.
 use Prim.Native.Nat.{◌-◌}
-use native.Mathlib.Omega.{arith}
 use lib.ListN.{length}
-use borrow.Author.Rules.{rules}
 use Rattle.usn_carver.specs.Settings.{settings_of}
-use Rattle.usn_carver.proofs.RunLaws.{rest}
-use Rattle.usn_carver.proofs.FillLaws.{Counting, counted, counting-skip}
+use Rattle.usn_carver.proofs.FillLaws.{Counting}
 use Rattle.usn_carver.proofs.fill.count_records.Given as goal
 
 abbrev pub invariant-loop-next : goal.invariant-loop-next

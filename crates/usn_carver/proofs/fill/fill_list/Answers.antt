@@ -1,10 +1,6 @@
-use Prim.Native.Nat.{◌-◌}
 use native.Mathlib.Omega.{arith}
-use lib.ListN.{length}
-use borrow.Author.Rules.{rules}
-use Rattle.usn_carver.specs.Settings.{settings_of}
 use Rattle.usn_carver.proofs.RunLaws.{rest}
-use Rattle.usn_carver.proofs.FillLaws.{Filling, filling-start, filling-pass, filling_skip, filling-structure, filling-time, filling-room, filling-carved, filling-end}
+use Rattle.usn_carver.proofs.FillLaws.{filling-start, filling-pass, filling_skip, filling-structure, filling-time, filling-room, filling-carved, filling-end}
 use Rattle.usn_carver.proofs.fill.fill_list.Goals as goal
 
 pub nothing_met-stats-requires : goal.nothing_met-stats-requires

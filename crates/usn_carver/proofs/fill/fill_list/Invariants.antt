@@ -1,11 +1,8 @@
 -- The invariant: what is written and counted, with what is left from o on, is the whole.
 use Prim.Native.Nat.{◌-◌}
-use native.Mathlib.Omega.{arith}
 use lib.ListN.{length}
-use borrow.Author.Rules.{rules}
 use Rattle.usn_carver.specs.Settings.{settings_of}
-use Rattle.usn_carver.proofs.RunLaws.{rest}
-use Rattle.usn_carver.proofs.FillLaws.{Filling, filling-start, filling-pass, filling_skip, filling-structure, filling-time, filling-room, filling-carved, filling-end}
+use Rattle.usn_carver.proofs.FillLaws.{Filling}
 use Rattle.usn_carver.proofs.fill.fill_list.Given as goal
 
 abbrev pub invariant-loop-stats : goal.invariant-loop-stats

@@ -1,5 +1,4 @@
 -- A carved record takes 64 bytes, of which the last may lack 4, so there is room at once; else the count tells.
-use borrow.Author.Rules.{rules}
 use Prim.Native.Nat.{ℕ}
 use mathlib.Core.Path.{sym, ap}
 use lib.Dec.{leb}

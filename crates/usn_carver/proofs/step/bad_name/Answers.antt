@@ -1,5 +1,4 @@
 -- The tests in their order.
-use borrow.Author.Rules.{rules}
 use borrow.Author.Tests.{eq-eqb, ne_eqb, lt-ltb, le-ltb}
 use Rattle.usn_carver.proofs.step.bad_name.Goals as goal
 

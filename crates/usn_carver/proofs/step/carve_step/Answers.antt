@@ -1,5 +1,4 @@
 -- Each way out by the tests that led to it.
-use borrow.Author.Rules.{rules}
 use native.Mathlib.Omega.{arith}
 use Rattle.usn_carver.proofs.VisitLaws.{stopped, passed-zero, by-v2, by-v3, passed-other}
 use Rattle.usn_carver.proofs.step.carve_step.Goals as goal

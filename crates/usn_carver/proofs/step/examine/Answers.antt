@@ -1,5 +1,4 @@
 -- Each way out by the tests that led to it.
-use borrow.Author.Rules.{rules}
 use native.Mathlib.Omega.{arith}
 use Rattle.usn_carver.proofs.VisitLaws.{passed-short, passed-large, passed-cut, rejected-structure, rejected-time, carved-record}
 use Rattle.usn_carver.proofs.step.examine.Goals as goal

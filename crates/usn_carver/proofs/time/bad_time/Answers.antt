@@ -1,5 +1,4 @@
 -- The two comparisons.
-use borrow.Author.Rules.{rules}
 use mathlib.Core.Path.{sym, ◌∙◌}
 use Rattle.usn_carver.proofs.time.bad_time.Goals as goal
 

@@ -1,5 +1,4 @@
 -- A read past the end, and one inside.
-use borrow.Author.Rules.{rules}
 use mathlib.Core.Path.{sym}
 use native.Mathlib.Omega.{arith}
 use Rattle.usn_record.proofs.ByteLaws.{read_byte, read_past}

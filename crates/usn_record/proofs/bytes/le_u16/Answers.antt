@@ -1,5 +1,4 @@
 -- Two halves joined; a read past the end is 0.
-use borrow.Author.Rules.{rules}
 use native.Mathlib.Omega.{arith}
 use mathlib.Core.Path.{sym, ◌∙◌}
 use Rattle.usn_record.proofs.ByteLaws.{read_past, read_join, read_byte}

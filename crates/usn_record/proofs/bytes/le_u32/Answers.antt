@@ -1,7 +1,6 @@
 -- Two halves joined; a read past the end is 0.
-use borrow.Author.Rules.{rules}
 use native.Mathlib.Omega.{arith}
-use mathlib.Core.Path.{sym, ◌∙◌}
+use mathlib.Core.Path.{sym}
 use Rattle.usn_record.proofs.ByteLaws.{read_past, read_join}
 use Rattle.usn_record.proofs.bytes.le_u32.Goals as goal
 

@@ -1,5 +1,4 @@
 -- Each way out rewrites with the tests that led there.
-use borrow.Author.Rules.{rules}
 use borrow.Author.Tests.{lt-ltb, le-ltb}
 use Rattle.usn_record.specs.Fields.{timestamp_of}
 use Rattle.usn_record.proofs.fields.filetime_to_timestamp.Goals as goal

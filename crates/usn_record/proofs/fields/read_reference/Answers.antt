@@ -1,5 +1,4 @@
 -- The halves as they were read spell the reference, and one that runs past the end is 0.
-use borrow.Author.Rules.{rules}
 use native.Mathlib.Omega.{arith}
 use Rattle.usn_record.proofs.FieldLaws.{wide-reference, past-reference, narrow-reference}
 use Rattle.usn_record.proofs.fields.read_reference.Goals as goal

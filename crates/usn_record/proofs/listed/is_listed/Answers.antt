@@ -1,5 +1,4 @@
 -- Each way out is one of `listed`; where a parser would be asked, whether the length fits says what it answers.
-use borrow.Author.Rules.{rules}
 use mathlib.Core.Path.{refl, ap}
 use native.Mathlib.Omega.{arith}
 use Rattle.usn_record.specs.Layout.{v2, v3}

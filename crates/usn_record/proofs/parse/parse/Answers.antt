@@ -1,12 +1,12 @@
 -- Each refusal by the tests that led to it; the record is put together from what its reads gave.
-use borrow.Author.Rules.{rules, sfits_of}
+use borrow.Author.Rules.{sfits_of}
 use native.Mathlib.Omega.{arith}
 use mathlib.Core.Path.{sym, ap, ◌∙◌}
 use mathlib.Core.Bool.{true≢false}
 use mir.Syntax.{w64}
 use mir.ValLaws.{to_z-of_z}
 use Rattle.base.specs.Outcome.{answered}
-use Rattle.usn_record.proofs.RecordLaws.{Accepts, refused-above-domain, refused-short-slice, refused-below-fixed, refused-above-most, refused-past-slice, accepted, assembled}
+use Rattle.usn_record.proofs.RecordLaws.{refused-above-domain, refused-short-slice, refused-below-fixed, refused-above-most, refused-past-slice, accepted, assembled}
 use Rattle.usn_record.proofs.parse.parse.Goals as goal
 use Rattle.usn_record.proofs.parse.parse.Goals.{then-length_in_slice+else-size-length, else-length_in_slice}
 

@@ -1,5 +1,4 @@
 -- By the version: each reference is read where its layout has it.
-use borrow.Author.Rules.{rules}
 use native.Mathlib.Omega.{arith}
 use Rattle.usn_record.proofs.ReferenceLaws.{read-v2, read-v3, read-nothing}
 use Rattle.usn_record.proofs.references.references_at.Goals as goal

@@ -1,8 +1,4 @@
-use Prim.Native.Nat.{◌-◌}
 use native.Mathlib.Omega.{arith}
-use lib.ListN.{length}
-use borrow.Author.Rules.{rules}
-use Rattle.usn_record.specs.Zeros.{PastZeros}
 use Rattle.usn_record.proofs.ZeroLaws.{past-none, past-four}
 use Rattle.usn_record.proofs.zeros.skip_zeros.Goals as goal
 

@@ -1,10 +1,7 @@
 -- The invariant: zero words alone lie between o and p. The measure is what is left of the data.
 use Prim.Native.Nat.{◌-◌}
-use native.Mathlib.Omega.{arith}
 use lib.ListN.{length}
-use borrow.Author.Rules.{rules}
 use Rattle.usn_record.specs.Zeros.{PastZeros}
-use Rattle.usn_record.proofs.ZeroLaws.{past-none, past-four}
 use Rattle.usn_record.proofs.zeros.skip_zeros.Given as goal
 
 abbrev pub invariant-loop-p : goal.invariant-loop-p

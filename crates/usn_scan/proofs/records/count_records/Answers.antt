@@ -1,9 +1,7 @@
-use Prim.Native.Nat.{◌+◌, ◌-◌, ◌≤◌}
-use mathlib.Core.Path.{◌≡◌, ap, sym, ◌∙◌}
+use mathlib.Core.Path.{ap, sym, ◌∙◌}
 use native.Mathlib.Omega.{arith}
 use lib.ListN.{length}
-use borrow.Author.Rules.{rules}
-use Rattle.usn_scan.specs.Scan.{events_from, record_places, scanned}
+use Rattle.usn_scan.specs.Scan.{record_places, scanned}
 use Rattle.usn_scan.proofs.ZeroLaws.{skipped}
 use Rattle.usn_scan.proofs.ScanLaws.{rest}
 use Rattle.usn_scan.proofs.records.count_records.Goals as goal

@@ -1,12 +1,8 @@
 -- The invariant: the records counted, with those that are met from o on, are all of them. The measure is what is left of the extract.
 use Prim.Native.Nat.{◌+◌, ◌-◌, ◌≤◌}
-use mathlib.Core.Path.{◌≡◌, ap, sym, ◌∙◌}
-use native.Mathlib.Omega.{arith}
+use mathlib.Core.Path.{◌≡◌}
 use lib.ListN.{length}
-use borrow.Author.Rules.{rules}
 use Rattle.usn_scan.specs.Scan.{events_from, record_places, scanned}
-use Rattle.usn_scan.proofs.ZeroLaws.{skipped}
-use Rattle.usn_scan.proofs.ScanLaws.{rest}
 use Rattle.usn_scan.proofs.records.count_records.Given as goal
 
 abbrev pub invariant-loop-next : goal.invariant-loop-next

@@ -1,5 +1,4 @@
 -- Where the room is enough for any extract of this length, the bound on the number of records says so.
-use borrow.Author.Rules.{rules}
 use Prim.Native.Nat.{ℕ}
 use mathlib.Core.Path.{ap, sym}
 use native.Mathlib.Omega.{arith}

@@ -1,14 +1,9 @@
 -- The invariant: the records written, with those that are met from o on, are all of them. The measure is what is left of the extract.
 use Prim.Native.Nat.{◌-◌}
-use mathlib.Core.Path.{refl, ap, sym, ◌∙◌}
-use native.Mathlib.Omega.{arith}
 use lib.ListN.{length}
-use borrow.Author.Rules.{rules}
 use Rattle.base.specs.Lists.{place_words}
-use Rattle.base.proofs.ListLaws.{Writing, writing_start, writing-skip, writing-room, writing-row, writing-end}
+use Rattle.base.proofs.ListLaws.{Writing}
 use Rattle.usn_scan.specs.Scan.{events_from, record_places, scanned}
-use Rattle.usn_scan.proofs.ZeroLaws.{skipped}
-use Rattle.usn_scan.proofs.ScanLaws.{rest}
 use Rattle.usn_scan.proofs.records.write_records.Given as goal
 
 abbrev pub invariant-loop-next : goal.invariant-loop-next

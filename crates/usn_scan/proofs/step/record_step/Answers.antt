@@ -1,5 +1,4 @@
 -- Each case of the parser's answer.
-use borrow.Author.Rules.{rules}
 use Rattle.usn_scan.proofs.step.record_step.Goals as goal
 
 pub returns-in-Record : goal.returns-in-Record

@@ -1,5 +1,4 @@
 -- Each way out by the tests that led to it; the last is the version's.
-use borrow.Author.Rules.{rules}
 use native.Mathlib.Omega.{arith}
 use Rattle.usn_scan.proofs.StepLaws.{visit-no-header, visit-short, visit-long, visit-past-end, visit-inside}
 use Rattle.usn_scan.proofs.step.scan_step.Goals as goal

@@ -1,5 +1,4 @@
 -- Each arm of the match by its number; the part that is lent is the record, which its parser accepts.
-use borrow.Author.Rules.{rules}
 use Rattle.usn_scan.proofs.StepLaws.{version-2-short, version-3-short, version-2, version-3, version-4, version-other}
 use Rattle.usn_scan.proofs.step.version_step.Goals as goal
 

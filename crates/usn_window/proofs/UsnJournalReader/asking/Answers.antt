@@ -1,5 +1,4 @@
 -- The answer by what the window wants.
-use borrow.Author.Rules.{rules}
 use Rattle.usn_window.proofs.UsnJournalReader.asking.Goals as goal
 
 pub returns : goal.returns

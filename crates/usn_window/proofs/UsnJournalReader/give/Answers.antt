@@ -1,7 +1,6 @@
 -- Each answer by the tests that led to it; the bytes go behind those that are held.
-use borrow.Author.Rules.{rules}
 use native.Mathlib.Omega.{arith}
-use Rattle.window_numbers.proofs.NumberLaws.{sound, EndOf, end_of}
+use Rattle.window_numbers.proofs.NumberLaws.{sound, end_of}
 use Rattle.usn_window.proofs.CallLaws.{give-refused, give-too-many, give-fits, give-nothing, give-end, give-bytes}
 use Rattle.usn_window.proofs.UsnJournalReader.give.Goals as goal
 

@@ -1,5 +1,4 @@
 -- Each answer by the tests that led to it.
-use borrow.Author.Rules.{rules}
 use native.Mathlib.Omega.{arith}
 use Rattle.window_numbers.proofs.NumberLaws.{sound}
 use Rattle.usn_window.proofs.WindowLaws.{ready_of}

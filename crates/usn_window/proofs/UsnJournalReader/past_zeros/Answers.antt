@@ -1,5 +1,4 @@
 -- Zero words are passed as the turns would pass them.
-use borrow.Author.Rules.{rules}
 use native.Mathlib.Omega.{arith}
 use Rattle.usn_window.proofs.ZeroLaws.{window-length, zeros-inside, zeros-search, zeros-none}
 use mathlib.Core.Path.{refl}

@@ -1,5 +1,4 @@
 -- The end by its own equation.
-use borrow.Author.Rules.{rules}
 use Rattle.usn_window.proofs.UsnJournalReader.refill.Goals as goal
 
 pub returns : goal.returns

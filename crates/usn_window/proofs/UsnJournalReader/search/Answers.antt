@@ -1,8 +1,4 @@
-use borrow.Author.Rules.{rules}
-use Prim.Native.Nat.{◌-◌}
-use lib.ListN.{length}
-use Rattle.usn_window.specs.Rule.{buffer_reads}
-use Rattle.usn_window.proofs.SearchLaws.{Searching, searching-start, searching-done, searching-again, searching-less, searching-passed, passed-less}
+use Rattle.usn_window.proofs.SearchLaws.{searching-start, searching-done, searching-again, searching-less, searching-passed, passed-less}
 use Rattle.usn_window.proofs.UsnJournalReader.search.Goals as goal
 
 pub loop-r-init : goal.loop-r-init

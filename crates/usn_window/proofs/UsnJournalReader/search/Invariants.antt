@@ -1,9 +1,8 @@
 -- The invariant: the search from here is the whole search.
-use borrow.Author.Rules.{rules}
 use Prim.Native.Nat.{◌-◌}
 use lib.ListN.{length}
 use Rattle.usn_window.specs.Rule.{buffer_reads}
-use Rattle.usn_window.proofs.SearchLaws.{Searching, searching-start, searching-done, searching-again, searching-less, searching-passed, passed-less}
+use Rattle.usn_window.proofs.SearchLaws.{Searching}
 use Rattle.usn_window.proofs.UsnJournalReader.search.Given as goal
 
 abbrev pub invariant-loop-r : goal.invariant-loop-r

@@ -1,8 +1,5 @@
 -- Each way out by the tests that led to it.
-use borrow.Author.Rules.{rules}
 use native.Mathlib.Omega.{arith}
-use mathlib.Core.Path.{◌≡◌, sym, ap, ◌∙◌}
-use Rattle.usn_record.proofs.NameLaws.{listed-name}
 use Rattle.usn_window.proofs.TurnLaws.{turn-short, turn_below, turn-above, turn-past-stream, turn-past, turn-record, turn-rejected, name-near, skip-fits}
 use Rattle.usn_window.proofs.WindowLaws.{refill-fits}
 use Rattle.usn_window.proofs.UsnJournalReader.turn.Goals as goal

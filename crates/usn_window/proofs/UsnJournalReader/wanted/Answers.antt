@@ -1,5 +1,4 @@
 -- By the flag.
-use borrow.Author.Rules.{rules}
 use Rattle.usn_window.proofs.WindowLaws.{wants-none, wants-rest}
 use Rattle.usn_window.proofs.UsnJournalReader.wanted.Goals as goal
 

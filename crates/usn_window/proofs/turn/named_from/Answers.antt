@@ -1,5 +1,4 @@
 -- The record with its name's place.
-use borrow.Author.Rules.{rules}
 use Rattle.usn_window.proofs.TurnLaws.{renamed}
 use Rattle.usn_window.proofs.turn.named_from.Goals as goal
 

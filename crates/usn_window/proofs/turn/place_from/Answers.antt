@@ -1,5 +1,4 @@
 -- Each choice by its test.
-use borrow.Author.Rules.{rules}
 use borrow.Author.Tests.{eq-eqb, ne_eqb}
 use Rattle.usn_window.proofs.turn.place_from.Goals as goal
 

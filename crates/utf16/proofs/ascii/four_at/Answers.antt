@@ -1,6 +1,5 @@
 -- The part has all of its eight bytes.
 use native.Mathlib.Omega.{arith}
-use borrow.Author.Rules.{rules}
 use Rattle.utf16.proofs.AsciiLaws.{eight-part}
 use Rattle.utf16.proofs.ascii.four_at.Goals as goal
 

@@ -1,7 +1,6 @@
 -- Four bytes, stored one after the other: each unit is one.
 use native.Mathlib.Omega.{arith}
 use native.Mathlib.Numerals.{towards_suc}
-use borrow.Author.Rules.{rules}
 use lib.ListN.{length-set}
 use Rattle.utf16.proofs.AsciiLaws.{four-units}
 use Rattle.utf16.proofs.ascii.put_four.Goals as goal

@@ -1,7 +1,6 @@
 -- Each way out by the units read.
 use mathlib.Core.Path.{sym, ◌∙◌}
 use native.Mathlib.Omega.{arith}
-use borrow.Author.Rules.{rules}
 use Rattle.utf16.proofs.Utf16Laws.{pair-units}
 use Rattle.utf16.proofs.FirstLaws.{first-last, first_alone, first-pair}
 use Rattle.utf16.proofs.code_point.first_code_point.Goals as goal

@@ -2,7 +2,6 @@
 use mathlib.Core.Path.{refl, ap}
 use native.Mathlib.Omega.{arith}
 use native.Mathlib.Numerals.{towards_suc}
-use borrow.Author.Rules.{rules}
 use lib.ListN.{length, length-set}
 use Rattle.utf16.proofs.Utf8Laws.{utf8-one, utf8-two, utf8-three, utf8-four}
 use Rattle.utf16.proofs.PutLaws.{put_as}

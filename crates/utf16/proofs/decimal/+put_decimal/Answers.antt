@@ -1,7 +1,7 @@
 -- The digits of the tenth are written first, and then the last digit.
-use mathlib.Core.Path.{refl, ap, ◌∙◌}
+use mathlib.Core.Path.{refl, ap}
 use native.Mathlib.Omega.{arith}
-use lib.ListN.{length, length-set}
+use lib.ListN.{length}
 use Rattle.utf16.proofs.PutLaws.{put_as}
 use Rattle.utf16.proofs.DecimalLaws.{decimal-one, decimal-next, last-room, put_last}
 use Rattle.utf16.proofs.decimal.+put_decimal.Goals as goal

@@ -3,7 +3,6 @@ use Prim.Native.Nat.{ℕ}
 use mathlib.Core.Path.{sym, ap}
 use native.Mathlib.Omega.{arith}
 use borrow.Author.Tests.{le-leb}
-use borrow.Author.Rules.{rules}
 use lib.Dec.{leb}
 use Rattle.utf16.proofs.TextLaws.{name-room}
 use Rattle.utf16.proofs.name.has_room.Goals as goal

@@ -1,5 +1,5 @@
 use native.Mathlib.Omega.{arith}
-use Rattle.utf16.proofs.NameLaws.{Counting, counting-start, counting-point, counting-ascii, counting-most, counting-end}
+use Rattle.utf16.proofs.NameLaws.{counting-start, counting-point, counting-ascii, counting-most, counting-end}
 use Rattle.utf16.proofs.name.name_length.Goals as goal
 
 pub loop-left-init : goal.loop-left-init

@@ -1,7 +1,6 @@
-use Prim.Native.Nat.{◌/◌}
 use mathlib.Core.Path.{sym, ◌∙◌}
 use native.Mathlib.Omega.{arith}
-use Rattle.utf16.proofs.NameLaws.{Putting, putting-start, four-room, putting-four, rest-room, rest-length, putting-rest}
+use Rattle.utf16.proofs.NameLaws.{putting-start, four-room, putting-four, rest-room, rest-length, putting-rest}
 use Rattle.utf16.proofs.name.put_name.Goals as goal
 
 pub loop-left-init : goal.loop-left-init

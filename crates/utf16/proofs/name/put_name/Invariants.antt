@@ -1,8 +1,6 @@
 -- The invariant: what is written, with the text of the units left, is the name's.
 use Prim.Native.Nat.{◌/◌}
-use mathlib.Core.Path.{sym, ◌∙◌}
-use native.Mathlib.Omega.{arith}
-use Rattle.utf16.proofs.NameLaws.{Putting, putting-start, four-room, putting-four, rest-room, rest-length, putting-rest}
+use Rattle.utf16.proofs.NameLaws.{Putting}
 use Rattle.utf16.proofs.name.put_name.Given as goal
 
 abbrev pub invariant-loop-left : goal.invariant-loop-left

@@ -1,5 +1,5 @@
 use native.Mathlib.Omega.{arith}
-use Rattle.utf16.proofs.NameLaws.{Putting, putting-start, putting-room, putting-point, ascii-room, putting-ascii, putting-end}
+use Rattle.utf16.proofs.NameLaws.{putting-start, putting-room, putting-point, ascii-room, putting-ascii, putting-end}
 use Rattle.utf16.proofs.name.put_units.Goals as goal
 
 pub loop-left-init : goal.loop-left-init

@@ -1,6 +1,5 @@
 -- The invariant: what is written, with the text of the units left, is the whole text.
-use native.Mathlib.Omega.{arith}
-use Rattle.utf16.proofs.NameLaws.{Putting, putting-start, putting-room, putting-point, ascii-room, putting-ascii, putting-end}
+use Rattle.utf16.proofs.NameLaws.{Putting}
 use Rattle.utf16.proofs.name.put_units.Given as goal
 
 abbrev pub invariant-loop-left : goal.invariant-loop-left
