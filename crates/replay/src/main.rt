@@ -22,10 +22,11 @@ mod readers;
 mod records;
 mod rewinds;
 
-ghost use Rattle.std.specs.Prelude.{◌≡◌, length};
+ghost use Rattle.std.specs.Prelude.{◌≡◌, ◌≤◌, length, IfOk};
 
-use libc::STDIN_FILENO;
 use recording::cases::{NextCase, case_at, part};
+use std::io;
+use std::io::{BufWriter, Read, Write};
 use usn_record::{parse_usn_record_v2, parse_usn_record_v3};
 
 // A program: where its journal and its image lie in the recording, and how many slots of its table are used.
@@ -38,11 +39,13 @@ struct Program {
     used: usize,
 }
 
-fn main() {
+fn main(rt: HostRuntime) -> io::Result<()> {
     let mut buffer = room();
-    let n = io::read_full(STDIN_FILENO, &mut buffer);
+    let n = read_full(&mut rt.stdin(), &mut buffer)?;
     let mut slots = [0u64; 2100];
-    replay_all(&buffer[..n], &mut slots);
+    let mut out = BufWriter::new(rt.alloc(), rt.stdout())?;
+    replay_all(&mut out, &buffer[..n], &mut slots)?;
+    out.flush()
 }
 
 // Room for a recording.
@@ -52,15 +55,30 @@ fn room() -> [u8; 524288]
     [0; 524288]
 }
 
+// Reads until the buffer is full or the input ends, and answers how many bytes were read.
+fn read_full<R: Read>(input: &mut R, buffer: &mut [u8]) -> io::Result<usize>
+    ensures { IfOk result (λ n. n ≤ length buffer.old) }
+{
+    let mut n: usize = 0;
+    while n < buffer.len() {
+        let more = input.read(&mut buffer[n..])?;
+        if more == 0 {
+            return Ok(n);
+        }
+        n += more;
+    }
+    Ok(n)
+}
+
 // Each case in turn.
-fn replay_all(cases: &[u8], slots: &mut [u64]) {
+fn replay_all<W: Write>(out: &mut W, cases: &[u8], slots: &mut [u64]) -> io::Result<()> {
     let mut program = began(0, 0);
     let mut at: usize = 0;
     loop {
         match case_at(cases, at) {
-            NextCase::Over => return,
+            NextCase::Over => return Ok(()),
             NextCase::Case { kind, start, end } => {
-                program = answer(cases, kind, start, end, program, slots);
+                program = answer(out, cases, kind, start, end, program, slots)?;
                 at = end;
             }
         }
@@ -79,70 +97,72 @@ fn began(start: usize, end: usize) -> Program {
 }
 
 // The program after a case.
-fn answer(
+fn answer<W: Write>(
+    out: &mut W,
     cases: &[u8],
     kind: u8,
     start: usize,
     end: usize,
     program: Program,
     slots: &mut [u64],
-) -> Program {
+) -> io::Result<Program> {
     if kind == 8 {
-        return began(start, end);
+        return Ok(began(start, end));
     }
     if kind == 9 {
-        return Program {
+        return Ok(Program {
             journal_start: program.journal_start,
             journal_end: program.journal_end,
             image_start: start,
             image_end: end,
             used: program.used,
-        };
+        });
     }
     let journal = part(cases, program.journal_start, program.journal_end);
     let image = part(cases, program.image_start, program.image_end);
     let bytes = part(cases, start, end);
-    let used = call(journal, image, kind, bytes, program.used, slots);
-    Program {
+    let used = call(out, journal, image, kind, bytes, program.used, slots)?;
+    Ok(Program {
         journal_start: program.journal_start,
         journal_end: program.journal_end,
         image_start: program.image_start,
         image_end: program.image_end,
         used,
-    }
+    })
 }
 
 // The used slots after the call of a case.
-fn call(
+fn call<W: Write>(
+    out: &mut W,
     journal: &[u8],
     image: &[u8],
     kind: u8,
     bytes: &[u8],
     used: usize,
     slots: &mut [u64],
-) -> usize {
+) -> io::Result<usize> {
     match kind {
         1..=7 => {
-            read(kind, bytes);
-            used
+            read(out, kind, bytes)?;
+            Ok(used)
         }
         15 => {
-            rewinds::rewind_journal(journal, image);
-            used
+            rewinds::rewind_journal(out, journal, image)?;
+            Ok(used)
         }
-        _ => paths::call(journal, image, kind, bytes, used, slots),
+        _ => paths::call(out, journal, image, kind, bytes, used, slots),
     }
 }
 
 // The calls on bytes alone.
-fn read(kind: u8, bytes: &[u8]) {
+fn read<W: Write>(out: &mut W, kind: u8, bytes: &[u8]) -> io::Result<()> {
     match kind {
-        1 => records::write_parsed(parse_usn_record_v2(bytes), bytes),
-        2 => records::write_parsed(parse_usn_record_v3(bytes), bytes),
-        3 => readers::scan(bytes),
-        4 => readers::carve(bytes),
-        5 => readers::window(bytes),
-        6 => images::carve(bytes),
-        _ => images::write_text(bytes),
+        1 => records::write_parsed(out, parse_usn_record_v2(bytes), bytes),
+        2 => records::write_parsed(out, parse_usn_record_v3(bytes), bytes),
+        3 => readers::scan(out, bytes),
+        4 => readers::carve(out, bytes),
+        5 => readers::window(out, bytes),
+        6 => images::carve(out, bytes),
+        _ => images::write_text(out, bytes),
     }
 }

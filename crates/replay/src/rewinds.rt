@@ -1,109 +1,146 @@
 // Rewinds: the records of a journal, over the entries of an image.
 use entry_table::Stored;
-use libc::STDOUT_FILENO;
 use mft_carver::{ENTRY_WORDS, MftCarving, carve_mft_entries};
 use recording::lines::{write_count, write_hex, write_refused};
 use rewind::{NextPath, PathStep, Rewind, Started, rewind_next, rewind_start};
+use std::io;
+use std::io::Write;
 use usn_scan::{Scanned, parse_usn_journal};
 
 // The words of a record in the scan's list.
 const PLACE_WORDS: usize = 2;
 
 // Scans the journal, and rewinds what is found.
-pub(crate) fn rewind_journal(journal: &[u8], image: &[u8]) {
+pub(crate) fn rewind_journal<W: Write>(
+    out: &mut W,
+    journal: &[u8],
+    image: &[u8],
+) -> io::Result<()> {
     let mut list = [0usize; 600];
     match parse_usn_journal(journal, &mut list) {
-        Scanned::Records(n) => rewind_listed(journal, image, &list, n),
-        Scanned::Refused(n) => write_refused(n),
+        Scanned::Records(n) => rewind_listed(out, journal, image, &list, n),
+        Scanned::Refused(n) => write_refused(out, n),
     }
 }
 
 // The first n records of a list, over a table that the image's entries are seeded into.
-fn rewind_listed(journal: &[u8], image: &[u8], list: &[usize], n: usize) {
+fn rewind_listed<W: Write>(
+    out: &mut W,
+    journal: &[u8],
+    image: &[u8],
+    list: &[usize],
+    n: usize,
+) -> io::Result<()> {
     if list.len() / PLACE_WORDS < n {
-        return;
+        return Ok(());
     }
     let mut slots = [0u64; 2100];
-    let used = seed_carved(journal, image, &mut slots);
-    write_count(b"records ", n as u64);
-    rewind_records(journal, image, &list[..n * PLACE_WORDS], &mut slots, used);
+    let used = seed_carved(out, journal, image, &mut slots)?;
+    write_count(out, b"records ", n as u64)?;
+    rewind_records(
+        out,
+        journal,
+        image,
+        &list[..n * PLACE_WORDS],
+        &mut slots,
+        used,
+    )
 }
 
 // Carves the image; the used slots after its entries.
-fn seed_carved(journal: &[u8], image: &[u8], slots: &mut [u64]) -> usize {
+fn seed_carved<W: Write>(
+    out: &mut W,
+    journal: &[u8],
+    image: &[u8],
+    slots: &mut [u64],
+) -> io::Result<usize> {
     let mut entries = [0u64; 576];
     match carve_mft_entries(image, &mut entries) {
         MftCarving::Carved(stats) => {
-            seed_first(journal, image, &entries, stats.entries_carved, slots)
+            seed_first(out, journal, image, &entries, stats.entries_carved, slots)
         }
         MftCarving::Refused(n) => {
-            write_refused(n);
-            0
+            write_refused(out, n)?;
+            Ok(0)
         }
     }
 }
 
 // The first n entries of a list into the empty table.
-fn seed_first(journal: &[u8], image: &[u8], entries: &[u64], n: usize, slots: &mut [u64]) -> usize {
+fn seed_first<W: Write>(
+    out: &mut W,
+    journal: &[u8],
+    image: &[u8],
+    entries: &[u64],
+    n: usize,
+    slots: &mut [u64],
+) -> io::Result<usize> {
     if entries.len() / ENTRY_WORDS < n {
-        return 0;
+        return Ok(0);
     }
     match entry_table::seed(journal, image, slots, 0, &entries[..n * ENTRY_WORDS]) {
-        Stored::Used(used) => used,
+        Stored::Used(used) => Ok(used),
         Stored::Refused(n) => {
-            write_refused(n);
-            0
+            write_refused(out, n)?;
+            Ok(0)
         }
     }
 }
 
 // The start, the used slots after it, and a line for each record.
-fn rewind_records(journal: &[u8], image: &[u8], records: &[usize], slots: &mut [u64], used: usize) {
+fn rewind_records<W: Write>(
+    out: &mut W,
+    journal: &[u8],
+    image: &[u8],
+    records: &[usize],
+    slots: &mut [u64],
+    used: usize,
+) -> io::Result<()> {
     let mut forward = [0u64; 2100];
     match rewind_start(journal, image, records, slots, used, &mut forward) {
         Started::Begun(rewind) => {
-            write_count(b" used ", rewind.used as u64);
-            io::write_all(STDOUT_FILENO, b"\n");
-            write_paths(journal, image, records, rewind, &mut forward);
+            write_count(out, b" used ", rewind.used as u64)?;
+            out.write_all(b"\n")?;
+            write_paths(out, journal, image, records, rewind, &mut forward)
         }
-        Started::Refused(n) => write_refused(n),
+        Started::Refused(n) => write_refused(out, n),
     }
 }
 
 // A line with the path of each record, and no more steps than there are records.
-fn write_paths(
+fn write_paths<W: Write>(
+    out: &mut W,
     journal: &[u8],
     image: &[u8],
     records: &[usize],
     begun: Rewind,
     forward: &mut [u64],
-) {
+) -> io::Result<()> {
     let mut rewind = begun;
     let mut steps: usize = 0;
     while steps < records.len() {
-        let step = write_step(journal, image, records, rewind, forward);
+        let step = write_step(out, journal, image, records, rewind, forward)?;
         rewind = step.rewind;
         let next = step.next;
         match next {
             NextPath::Record { path: _, text: _ } => {}
-            NextPath::End => return,
-            NextPath::Refused(n) => {
-                write_refused(n);
-                return;
-            }
+            NextPath::End => return Ok(()),
+            NextPath::Refused(n) => return write_refused(out, n),
         }
         steps += 1;
     }
+    Ok(())
 }
 
 // The next record's path, a line.
-fn write_step(
+fn write_step<W: Write>(
+    out: &mut W,
     journal: &[u8],
     image: &[u8],
     records: &[usize],
     rewind: Rewind,
     forward: &mut [u64],
-) -> PathStep {
+) -> io::Result<PathStep> {
     let mut chain = [0u64; 771];
     let mut text = [0u8; 8192];
     let step = rewind_next(
@@ -111,7 +148,7 @@ fn write_step(
     );
     let next = step.next;
     if let NextPath::Record { path: _, text: n } = next {
-        write_hex(&text, n);
+        write_hex(out, &text, n)?;
     }
-    step
+    Ok(step)
 }

@@ -1,5 +1,5 @@
 -- The numbers of a line, one part written after the other. Assumes nothing.
-use Prim.Native.Nat.{ℕ, ◌+◌, ◌≤◌}
+use Prim.Native.Nat.{ℕ, ◌≤◌}
 use mathlib.Core.Path.{◌≡◌}
 use mathlib.Core.List.{List, ◌++◌}
 use native.Mathlib.Omega.{arith}
@@ -9,11 +9,11 @@ use lib.IntN.{ℤ}
 use Rattle.usn_record.specs.declared.UsnRecord.{UsnRecord}
 use Rattle.utf16.proofs.PutLaws.{Put, put_then}
 use Rattle.usn_fields.specs.Line.{pair, signed_field, hex_field, numbers}
-use Rattle.usn_fields.proofs.FieldLaws.{Filled}
+use Rattle.usn_fields.proofs.FieldLaws.{Filled, put-of}
 
 -- one part, and then the others
 after : (k : ℕ) (l : List ℕ) (i : ℕ) (us vs : List ℕ) {m o : List ℕ} {r q : ℕ} → Filled k l m i r us → Put m o r q vs → Put l o i q (us ++ vs)
-after k l i us vs f p = put_then l i us vs (f.0, f.1.0) p
+after k l i us vs f p = put_then l i us vs (put-of k l i us f) p
 
 -- a signed number arrives as its bits, read back
 pub numbers-put : (l : List ℕ) (offset : ℕ) (r : UsnRecord) {z : ℤ} {m₁ m₂ m₃ m₄ m₅ m₆ : List ℕ} {q₁ q₂ q₃ q₄ q₅ q₆ : ℕ}
@@ -23,7 +23,7 @@ pub numbers-put : (l : List ℕ) (offset : ℕ) (r : UsnRecord) {z : ℤ} {m₁ 
     → z ≡ r.usn → Filled 22 m₃ m₄ q₃ q₄ (signed_field z)
     → Filled 42 m₄ m₅ q₄ q₅ (pair r.timestamp.seconds r.timestamp.nanoseconds)
     → Filled 9 m₅ m₆ q₅ q₆ (hex_field r.reason)
-    → (q₆ ≡ length (numbers offset r)) × ((m₆ ≡ sets l 0 (numbers offset r)) × (q₆ ≤ 199))
+    → record { value : q₆ ≡ length (numbers offset r); text_after : m₆ ≡ sets l 0 (numbers offset r); upper_bound : q₆ ≤ 199 }
 unfolding numbers
 numbers-put l offset r {z} {m₁} {m₂} {m₃} {m₄} {m₅} {m₆} {q₁} {q₂} {q₃} {q₄} {q₅} {q₆} a b c e d f g =
     let time = pair r.timestamp.seconds r.timestamp.nanoseconds in
@@ -37,5 +37,9 @@ numbers-put l offset r {z} {m₁} {m₂} {m₃} {m₄} {m₅} {m₆} {q₁} {q�
     (after 42 m₁ q₁ file (parent ++ (usn ++ (time ++ reason))) b
     (after 42 m₂ q₂ parent (usn ++ (time ++ reason)) c
     (after 22 m₃ q₃ usn (time ++ reason) d'
-    (after 42 m₄ q₄ time reason f (g.0, g.1.0))))) in
-    (omega (arith, p.0), (p.1, omega (arith, a.1.1, b.1.1, c.1.1, d.1.1, f.1.1, g.1.1)))
+    (after 42 m₄ q₄ time reason f (put-of 9 m₅ q₅ reason g))))) in
+    record {
+      value = omega (arith, p.value);
+      text_after = p.text_after;
+      upper_bound = omega (arith, a.upper_bound, b.upper_bound, c.upper_bound, d.upper_bound, f.upper_bound, g.upper_bound);
+    }

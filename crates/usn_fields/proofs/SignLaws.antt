@@ -11,7 +11,7 @@ use mir.Syntax.{w64}
 use mir.Val.{to_z, of_z, SFits}
 use mir.ValLaws.{to_z-of_z}
 use Rattle.utf16.proofs.PutLaws.{Put, put_as, put_then}
-use Rattle.usn_fields.proofs.FieldLaws.{Filled, fill-of}
+use Rattle.usn_fields.proofs.FieldLaws.{Filled, fill-of, put-of}
 use Rattle.usn_fields.specs.Line.{minus, field, signed_field}
 
 -- what code knows of a signed number's sign is a test on its bits, read back
@@ -62,12 +62,12 @@ module _ (z : ℤ) (f : SFits w64 z) where
       → Put l m i r minus → Filled 21 m o r q (field n) → Filled 22 l o i q (signed_field z)
   signed_below l i {m} {o} {r} {q} {n} h e p k =
       fill-of 22 l i (signed_field z)
-      (put_as l i (signed-negative e ∙ ap (λ (n : ℕ). minus ++ field n) (sym (h ∙ ap nat_abs (to_z-of_z w64 z f)))) (put_then l i minus (field n) p (k.0, k.1.0)))
-      (omega (arith, p.0, k.1.1))
+      (put_as l i (signed-negative e ∙ ap (λ (n : ℕ). minus ++ field n) (sym (h ∙ ap nat_abs (to_z-of_z w64 z f)))) (put_then l i minus (field n) p (put-of 21 m r (field n) k)))
+      (omega (arith, p.value, k.upper_bound))
 
   pub signed_above : (l : List ℕ) (i : ℕ) {m : List ℕ} {r n : ℕ} → n ≡ nat_abs (to_z w64 (of_z w64 z)) → lt_z (to_z w64 (of_z w64 z)) (pos 0) ≡ false
       → Filled 21 l m i r (field n) → Filled 22 l m i r (signed_field z)
-  signed_above l i h e k =
+  signed_above l i {m} {r} {n} h e k =
       fill-of 22 l i (signed_field z)
-      (put_as l i (signed_rest e ∙ ap field (sym (h ∙ ap nat_abs (to_z-of_z w64 z f)))) (k.0, k.1.0))
-      (omega (arith, k.1.1))
+      (put_as l i (signed_rest e ∙ ap field (sym (h ∙ ap nat_abs (to_z-of_z w64 z f)))) (put-of 21 l i (field n) k))
+      (omega (arith, k.upper_bound))

@@ -1,5 +1,5 @@
 -- A record that is passed without its path, and where a listing begins. Assumes nothing.
-use Prim.Native.Nat.{ℕ, ◌+◌, ◌*◌, ◌/◌, ◌≤◌}
+use Prim.Native.Nat.{ℕ, ◌*◌, ◌/◌, ◌≤◌}
 use mathlib.Core.Path.{◌≡◌, refl, ap, sym, ◌∙◌}
 use mathlib.Core.List.{List, []}
 use native.Mathlib.Omega.{arith}
@@ -11,7 +11,7 @@ use Rattle.base.specs.Outcome.{Outcome, refused, answered, map_outcome}
 use Rattle.base.specs.Refusals.{domain}
 use Rattle.base.proofs.ListLaws.{length-flatten}
 use Rattle.usn_scan.specs.Scan.{scanned}
-use Rattle.usn_scan.specs.Outcome.{scan, scan_outcome, scan_answer, scan_list}
+use Rattle.usn_scan.specs.Outcome.{scan, scan_outcome}
 use Rattle.usn_scan.specs.Promise.{Scans}
 use Rattle.usn_scan.specs.declared.Scanned.{Scanned}
 use Rattle.usn_scan.specs.declared.Scanned.TheVariants as scanning

@@ -32,6 +32,7 @@ use Rattle.usn_lines.specs.Listing.{Standing, standing, shown_path, onward, path
 use Rattle.usn_lines.specs.Promise.{Puts, Passes, StepsWithText, run_or, steps_made, text_of_step}
 use Rattle.usn_lines.specs.declared.next_path.TextStep.{TextStep}
 use Rattle.usn_lines.specs.declared.Put.{Put}
+use Rattle.utf16.proofs.PutLaws.{Put as Written}
 use Rattle.usn_fields.proofs.ShownLaws.{shown-front, length-shown}
 
 -- an answer with text is an answer without, whose text has room
@@ -153,16 +154,16 @@ module _ (journal records words : List ℕ) (r : Rewind) where
       none-words = p.forward ∙ none.0
 
       -- a question mark, and the record is passed
-      pub path-none : {e : ℕ} {v : List ℕ} {q : Rewind} {w : List ℕ} → (e ≡ 0 + 1) × (v ≡ sets (part' ++ drop most text) 0 (question_mark ∷ []))
+      pub path-none : {e : ℕ} {v : List ℕ} {q : Rewind} {w : List ℕ} → Written (part' ++ drop most text) v 0 e (question_mark ∷ [])
           → Passes (onward journal records (standing words' r)) q w
           → Puts text (shown_path journal out) most (onward journal records s) (record { end = e; rewind = q }) w v
       path-none {e} {v} {q} {w} b g =
           let d : Passes (onward journal records s) q w = rw none-words at g in
           let shown = none.1.1 in
           record {
-            end_is = b.0 ∙ ap length (sym shown);
-            written = b.1 ∙ ap (λ (l : List ℕ). sets l 0 (question_mark ∷ [])) none-text ∙ ap (sets text 0) (sym shown);
-            fits = omega (arith, b.0, h.0);
+            end_is = b.value ∙ ap length (sym shown);
+            written = b.text_after ∙ ap (λ (l : List ℕ). sets l 0 (question_mark ∷ [])) none-text ∙ ap (sets text 0) (sym shown);
+            fits = omega (arith, b.value, h.0);
             state = d.state;
             forward = d.forward;
           }

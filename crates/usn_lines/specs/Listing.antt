@@ -1,5 +1,5 @@
 -- The listing of a journal: a header, a line for each record that the scan lists, with its numbers and its path, and a last line that counts them.
-use Rattle.std.specs.Prelude.{ℕ, zero, suc, ◌+◌, ◌-◌, List, [], ◌∷◌, ◌++◌, map, cond, eqb, leb, length, replicate}
+use Rattle.std.specs.Prelude.{ℕ, zero, suc, ◌+◌, ◌-◌, List, [], ◌∷◌, ◌++◌, map, cond, eqb, leb, replicate}
 use Rattle.base.specs.Lists.{flatten, place_words}
 use Rattle.base.specs.Outcome.{Outcome, refused, answered}
 use Rattle.usn_record.specs.Record.{listed}

@@ -11,8 +11,8 @@
 ghost use Rattle.std.specs.Prelude.{◌*◌, ◌≤◌, ◌≡◌, length};
 ghost use Rattle.usnlist.specs.Promise.{ListPromise, WritePromise};
 
-use libc::{STDERR_FILENO, STDIN_FILENO, STDOUT_FILENO};
 use rewind::Rewind;
+use std::io::{Read, Write};
 use usn_lines::{begin, put_part};
 
 // The bytes of the input that are taken.
@@ -52,45 +52,54 @@ fn table_words() -> [u64; 7168]
     [0; 7168]
 }
 
-fn main() {
+fn main(rt: HostRuntime) {
     let mut buffer = room();
-    let input = read_input(&mut buffer);
+    let input = read_input(&mut rt.stdin(), &mut buffer);
     if input.failed {
-        warn(b"usnlist: reading standard input failed\n");
+        warn(&rt, "usnlist: reading standard input failed");
     }
-    let n = taken(input.bytes);
+    let n = taken(&rt, input.bytes);
     let mut list = list_words();
     let mut first = table_words();
     let mut forward = table_words();
-    if !write_listing(&buffer[..n], &mut list, &mut first, &mut forward) {
-        warn(b"usnlist: writing standard output failed\n");
+    if !write_listing(
+        &mut rt.stdout(),
+        &buffer[..n],
+        &mut list,
+        &mut first,
+        &mut forward,
+    ) {
+        warn(&rt, "usnlist: writing standard output failed");
     }
 }
 
 // How many bytes are taken of so many, and on standard error that this is not all of them.
-fn taken(bytes: usize) -> usize
+fn taken(rt: &impl Eprint, bytes: usize) -> usize
     ensures upper_bound { result ≤ bytes }
     ensures upper_bound_2 { result ≤ 65536 }
 {
     if TAKEN < bytes {
-        warn(b"usnlist: the input is longer than 65536 bytes, and the rest of it is not listed\n");
+        warn(
+            rt,
+            "usnlist: the input is longer than 65536 bytes, and the rest of it is not listed",
+        );
         return TAKEN;
     }
     bytes
 }
 
-// A line on standard error.
-fn warn(line: &[u8]) {
-    io::write_all(STDERR_FILENO, line);
+// A line on standard error, if it can be written there.
+fn warn(rt: &impl Eprint, line: &str) {
+    let _ = rt.eprintln(line);
 }
 
 // Reads until the buffer is full, the input ends or a read fails.
-fn read_input(buffer: &mut [u8]) -> Input
+fn read_input<R: Read>(input: &mut R, buffer: &mut [u8]) -> Input
     ensures { result.bytes ≤ length buffer.old }
 {
     let mut n: usize = 0;
     while n < buffer.len() {
-        let more = read_some(&mut buffer[n..]);
+        let more = read_some(input, &mut buffer[n..]);
         if more.bytes == 0 {
             return Input {
                 bytes: n,
@@ -106,29 +115,41 @@ fn read_input(buffer: &mut [u8]) -> Input
 }
 
 // One read: no bytes where it fails, and at the end of the input.
-fn read_some(buffer: &mut [u8]) -> Input
+fn read_some<R: Read>(input: &mut R, buffer: &mut [u8]) -> Input
     ensures { result.bytes ≤ length buffer.old }
 {
-    let got = libc::read(STDIN_FILENO, buffer);
-    Input {
-        bytes: io::count(got, buffer),
-        failed: got < 0,
+    match input.read(buffer) {
+        Ok(bytes) => Input {
+            bytes,
+            failed: false,
+        },
+        Err(_) => Input {
+            bytes: 0,
+            failed: true,
+        },
     }
 }
 
 // The listing of a journal, and whether all of it was written, with words for the list of its records and for two tables.
-fn write_listing(journal: &[u8], list: &mut [usize], first: &mut [u64], forward: &mut [u64]) -> bool
+fn write_listing<W: Write>(
+    out: &mut W,
+    journal: &[u8],
+    list: &mut [usize],
+    first: &mut [u64],
+    forward: &mut [u64],
+) -> bool
     requires { (length journal.now ≤ 65536) × (length list.old ≡ 2048) }
     ensures { ListPromise journal first forward result }
 {
     let begun = begin(journal, list, first, forward);
     let records = begun.records;
     let rewind = begun.rewind;
-    write_parts(journal, list, records, rewind, forward)
+    write_parts(out, journal, list, records, rewind, forward)
 }
 
 // All parts of the listing of the first so many records of a list, and whether all of them were written.
-fn write_parts(
+fn write_parts<W: Write>(
+    out: &mut W,
     journal: &[u8],
     list: &[usize],
     count: usize,
@@ -144,7 +165,7 @@ fn write_parts(
     while number < count + 2 {
         let put = put_part(journal, list, count, number, rewind, forward, &mut text);
         let end = put.end;
-        if !io::write_all(STDOUT_FILENO, &text[..end]) {
+        if out.write_all(&text[..end]).is_err() {
             return false;
         }
         rewind = put.rewind;

@@ -19,7 +19,9 @@ pub add_found-requires : goal.add_found-requires
 add_found-requires c = record { used_bound = c.requires.fits; indexed = (c.requires.index, c.requires.wide); probed = c.seek-found.ensures }
 
 pub tell-requires : goal.tell-requires
-tell-requires c = let s = c.args in make-asks s.journal.now s.image.now (table s.forward.now s.stand.used) s.entry s.text.now s.stand.at s.heads.now s.nexts.now c.requires.fits c.requires.index (added-forward refl c.replaces_forward.ensures) c.add_found.ensures.store.answer c.add_found.ensures.store.slots-are c.add_found.ensures.heads-are c.add_found.ensures.nexts-are (ap outcome c.in-Used.is) c.if-forward-slot.false c.requires
+tell-requires c = let s = c.args in
+    let asks = make-asks s.journal.now s.image.now (table s.forward.now s.stand.used) s.entry s.text.now s.stand.at s.heads.now s.nexts.now c.requires.fits c.requires.index (added-forward refl c.replaces_forward.ensures) c.add_found.ensures.store.answer c.add_found.ensures.store.slots-are c.add_found.ensures.heads-are c.add_found.ensures.nexts-are (ap outcome c.in-Used.is) c.if-forward-slot.false c.requires in
+    record { step_asks = asks.0; slot_bound = asks.1 }
 
 pub returns-in-Refused : goal.returns-in-Refused
 returns-in-Refused c = let s = c.args in make-refused s.journal.now s.image.now (table s.forward.now s.stand.used) s.entry s.text.now s.stand.at s.heads.now s.nexts.now c.requires.fits c.requires.index (added-forward refl c.replaces_forward.ensures) c.add_found.ensures.store.answer c.add_found.ensures.store.slots-are c.add_found.ensures.heads-are c.add_found.ensures.nexts-are (ap outcome c.in-Refused.is)

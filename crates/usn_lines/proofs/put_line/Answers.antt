@@ -1,7 +1,5 @@
 -- The numbers, the path behind them, and the line end.
-use native.Mathlib.Omega.{arith}
 use Rattle.usn_lines.proofs.PartLaws.{line-puts}
-use borrow.Author.Rules.{rules}
 use Rattle.usn_lines.proofs.put_line.Goals as goal
 
 pub returns : goal.returns

@@ -3,7 +3,6 @@ use native.Mathlib.Omega.{arith}
 use lib.ListN.{length-take}
 use Rattle.usn_lines.proofs.PartLaws.{head_puts, middle-puts, end-puts, records-taken}
 use Rattle.usn_lines.specs.Listing.{header_line}
-use borrow.Author.Rules.{rules}
 use Rattle.usn_lines.proofs.put_part.Goals as goal
 
 pub returns-then-number-eq0 : goal.returns-then-number-eq0

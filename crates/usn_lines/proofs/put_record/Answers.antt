@@ -1,6 +1,5 @@
 -- By the answer of the parser.
 use Rattle.usn_lines.proofs.PartLaws.{record-none, record-some}
-use borrow.Author.Rules.{rules}
 use Rattle.usn_lines.proofs.put_record.Goals as goal
 
 pub returns-in-Refused : goal.returns-in-Refused

@@ -1,6 +1,5 @@
 -- By the answer of the start.
 use Rattle.usn_lines.proofs.PassLaws.{start-refused, start-begun}
-use borrow.Author.Rules.{rules}
 use Rattle.usn_lines.proofs.start.Goals as goal
 
 pub returns-in-Refused : goal.returns-in-Refused

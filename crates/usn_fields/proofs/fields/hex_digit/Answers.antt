@@ -1,6 +1,5 @@
 -- By the size of the digit.
 use Rattle.usn_fields.proofs.FieldLaws.{glyph-low, glyph-high}
-use borrow.Author.Rules.{rules}
 use Rattle.usn_fields.proofs.fields.hex_digit.Goals as goal
 
 pub returns-then-d-lt10 : goal.returns-then-d-lt10

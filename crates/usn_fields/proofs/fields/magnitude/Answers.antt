@@ -1,6 +1,5 @@
 -- By the sign: the bits of a negative number are turned over.
 use Rattle.usn_fields.proofs.SignLaws.{turned, turned-fits, unturned}
-use borrow.Author.Rules.{rules}
 use Rattle.usn_fields.proofs.fields.magnitude.Goals as goal
 
 pub overflow_add-result : goal.overflow_add-result

@@ -1,7 +1,6 @@
 -- The digits, and then the space.
 use native.Mathlib.Omega.{arith}
 use Rattle.usn_fields.proofs.FieldLaws.{hex-length, hex-filled}
-use borrow.Author.Rules.{rules}
 use Rattle.usn_fields.proofs.fields.put_hex_field.Goals as goal
 
 pub put_byte-requires : goal.put_byte-requires

@@ -3,7 +3,6 @@ use native.Mathlib.Omega.{arith}
 use mir.Syntax.{w64}
 use mir.ValLaws.{to_z-of_z}
 use Rattle.usn_fields.proofs.NumberLaws.{numbers-put}
-use borrow.Author.Rules.{rules}
 use Rattle.usn_fields.proofs.fields.put_numbers.Goals as goal
 
 pub put_signed_field-seconds-requires : goal.put_signed_field-seconds-requires

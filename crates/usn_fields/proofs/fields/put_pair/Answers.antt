@@ -1,6 +1,5 @@
 -- One after the other.
 use Rattle.usn_fields.proofs.FieldLaws.{pair-filled}
-use borrow.Author.Rules.{rules}
 use Rattle.usn_fields.proofs.fields.put_pair.Goals as goal
 
 pub returns : goal.returns

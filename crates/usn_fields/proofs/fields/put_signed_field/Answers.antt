@@ -1,6 +1,5 @@
 -- By the sign.
 use Rattle.usn_fields.proofs.SignLaws.{signed_below, signed_above}
-use borrow.Author.Rules.{rules}
 use Rattle.usn_fields.proofs.fields.put_signed_field.Goals as goal
 
 pub returns-then-z-lt0 : goal.returns-then-z-lt0

@@ -1,9 +1,6 @@
-use Prim.Native.Nat.{◌-◌, ◌≤◌}
-use mathlib.Core.Path.{◌≡◌, ap, ◌∙◌}
+use mathlib.Core.Path.{ap, ◌∙◌}
 use native.Mathlib.Omega.{arith}
-use borrow.Author.Rules.{rules}
 use lib.ListN.{length}
-use Rattle.usn_fields.specs.Line.{shown_to}
 use Rattle.usn_fields.proofs.ShownLaws.{shown-none, shown-length, shown-next, shown-all}
 use Rattle.usn_fields.proofs.shown.show.Goals as goal
 

@@ -1,11 +1,7 @@
 -- The text so far is the text with its first bytes shown.
 use Prim.Native.Nat.{◌-◌, ◌≤◌}
-use mathlib.Core.Path.{◌≡◌, ap, ◌∙◌}
-use native.Mathlib.Omega.{arith}
-use borrow.Author.Rules.{rules}
-use lib.ListN.{length}
+use mathlib.Core.Path.{◌≡◌}
 use Rattle.usn_fields.specs.Line.{shown_to}
-use Rattle.usn_fields.proofs.ShownLaws.{shown-none, shown-length, shown-next, shown-all}
 use Rattle.usn_fields.proofs.shown.show.Given as goal
 
 abbrev pub invariant-loop-i : goal.invariant-loop-i

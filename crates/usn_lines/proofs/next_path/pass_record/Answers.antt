@@ -6,7 +6,6 @@ use Rattle.entry_table.specs.Promise.{outcome}
 use Rattle.additions.proofs.EntryLaws.{added-forward}
 use Rattle.rewind.proofs.StepLaws.{record-next, chain-refused, chain-ended, chain-full, chain-taken}
 use Rattle.usn_lines.proofs.PassLaws.{passed}
-use borrow.Author.Rules.{rules}
 use Rattle.usn_lines.proofs.next_path.pass_record.Goals as goal
 
 pub add-requires : goal.add-requires

@@ -1,6 +1,5 @@
 -- In as many bytes as a path may take.
 use Rattle.usn_lines.proofs.PathLaws.{path-put}
-use borrow.Author.Rules.{rules}
 use Rattle.usn_lines.proofs.next_path.put_path.Goals as goal
 
 pub returns : goal.returns

@@ -1,6 +1,5 @@
 -- By the answer.
 use Rattle.usn_lines.proofs.PathLaws.{none-ran}
-use borrow.Author.Rules.{rules}
 use Rattle.usn_lines.proofs.next_path.run_or.Goals as goal
 
 pub returns-in-Refused : goal.returns-in-Refused

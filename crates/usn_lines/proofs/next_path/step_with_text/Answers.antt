@@ -1,6 +1,5 @@
 -- A run that is asked for one step.
 use Rattle.usn_lines.proofs.PathLaws.{tells}
-use borrow.Author.Rules.{rules}
 use Rattle.usn_lines.proofs.next_path.step_with_text.Goals as goal
 
 pub returns : goal.returns
