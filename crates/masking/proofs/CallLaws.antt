@@ -17,6 +17,7 @@ use Rattle.rewind.specs.Starting.{Tables}
 use Rattle.rewind_records.specs.Turning.{Next}
 use Rattle.rewind_steps.specs.Taking.{Step}
 use Rattle.rewind.proofs.TextLaws.{NotFull, not-full-of, adding-not-full, starting-not-full, stepping-not-full}
+use Rattle.chain.specs.Settings.{depth}
 use Rattle.masking.specs.Calls.{Sources, State, Plain, insert, insert_if_absent, seed, start, hand, lend, Call, plain, next_text, Answer, stored, start_result, next_result, handed, lent, plain_result, result_of, is_struck}
 use Rattle.masking.specs.Calls as calls
 use Rattle.masking.proofs.ContractLaws.{same_kept}
@@ -78,7 +79,7 @@ plain_other s (insert i k e) st = stored-not-full i st _ (storing-not-full _ _ _
 plain_other s (insert_if_absent i k e) st = stored-not-full i st _ (storing-not-full _ _ _)
 plain_other s (seed i es) st = stored-not-full i st _ (storing-not-full _ _ _)
 plain_other s (start i j) st = start-not-full i j st _ (starting-not-full _ _ _)
-plain_other s (calls.next i) st = next-not-full i st _ (stepping-not-full _ _ _ _)
+plain_other s (calls.next i) st = next-not-full i st _ (stepping-not-full _ _ depth _)
 plain_other s (hand i r) st = tt
 plain_other s (lend l) st = tt
 
