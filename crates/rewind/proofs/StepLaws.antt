@@ -27,7 +27,6 @@ use Rattle.path_text.proofs.CallLaws.{text-fits}
 use Rattle.additions.specs.Entries.{forward}
 use Rattle.rewind_records.specs.Environment.{Environment, environment_of, entries_of, rewind_refusal}
 use Rattle.additions.specs.Walking.{records_in, offset_in, entry_in}
-use Rattle.rewind.specs.Stepping as step
 use Rattle.rewind_records.specs.Turning.{Next, ended, next, first_of, turning, turn_outcome}
 use Rattle.rewind_steps.specs.Taking.{Step, step_of}
 use Rattle.rewind.specs.Stepping.{forward_table, stepped}

@@ -1,7 +1,7 @@
 -- What becomes of the record that is next: it goes into the forward table, and its chain is its parent's in that table. Text has no part in it.
 use Rattle.std.specs.Prelude.{ℕ, [], ◌∷◌}
 use Rattle.base.specs.Outcome.{Outcome, answered, map_outcome}
-use Rattle.entry_slots.specs.Table.{Table, table}
+use Rattle.entry_slots.specs.Table.{Table}
 use Rattle.additions.specs.Storing.{adding}
 use Rattle.entry_slots.specs.declared.EntryKey.{EntryKey}
 use Rattle.entry_slots.specs.declared.NamePlace.{NamePlace}

@@ -1,7 +1,6 @@
 -- By the record that is next, and then by what is made of it with no index.
 use native.Mathlib.Omega.{arith}
 use Rattle.rewind.proofs.StepLaws.{record-next, text-refused, text-ended, made_asks, made-slots, made-to, made-end, made-refused}
-use borrow.Author.Rules.{rules}
 use Rattle.rewind.proofs.rewind_next.Goals as goal
 
 pub make_step-requires : goal.make_step-requires

@@ -4,7 +4,6 @@ use native.Mathlib.Omega.{arith}
 use Rattle.entry_table.specs.Promise.{outcome}
 use Rattle.additions.proofs.EntryLaws.{added-forward}
 use Rattle.rewind.proofs.StepLaws.{record-next, chain-refused, chain-ended, chain-full, after-fits, chain-taken}
-use borrow.Author.Rules.{rules}
 use Rattle.rewind.proofs.rewind_next_chain.Goals as goal
 
 pub add-requires : goal.add-requires

@@ -5,7 +5,6 @@ use Rattle.entry_slots.specs.Slots.{slots_in}
 use Rattle.entry_slots.specs.Table.{table}
 use Rattle.entry_table.proofs.SeedLaws.{enough-room, left-built, left-plain}
 use Rattle.rewind.specs.Starting.{Tables, started}
-use borrow.Author.Rules.{rules}
 use Rattle.rewind.proofs.rewind_start_indexed.Goals as goal
 
 pub begin-requires : goal.begin-requires

@@ -1,6 +1,5 @@
 -- By the tests, and by whether there is an index.
 use Rattle.rewind_run.proofs.CallLaws.{run-refused, build-asks, run-asks, run-built, plain-asks, run-plain}
-use borrow.Author.Rules.{rules}
 use Rattle.rewind_run.proofs.rewind_run.Goals as goal
 
 pub returns-then-refused-ne0 : goal.returns-then-refused-ne0

@@ -6,7 +6,6 @@ use Rattle.entry_slots.proofs.ProbeLaws.{probed-slot}
 use Rattle.entry_table.specs.Promise.{outcome}
 use Rattle.additions.proofs.EntryLaws.{added-forward}
 use Rattle.rewind_steps.proofs.MakeLaws.{make-none, make-refused, make-asks, make-written}
-use borrow.Author.Rules.{rules}
 use Rattle.rewind_steps.proofs.make_step.Goals as goal
 
 pub seek-found-requires : goal.seek-found-requires

@@ -9,7 +9,6 @@ use Rattle.entry_slots.specs.Table.{table}
 use Rattle.entry_slots.proofs.PutLaws.{length-put}
 use Rattle.entry_slots.specs.Index.{heads_of, nexts_of}
 use Rattle.rewind_steps.proofs.MakeLaws.{tell-asks, way-asks, tell-to, tell-full}
-use borrow.Author.Rules.{rules}
 use Rattle.rewind_steps.proofs.tell.Goals as goal
 
 pub climb-up-requires : goal.climb-up-requires

@@ -1,10 +1,6 @@
-use Prim.Native.Nat.{◌-◌}
-use mathlib.Core.Path.{◌≡◌, refl, sym, ◌∙◌}
+use mathlib.Core.Path.{refl, sym, ◌∙◌}
 use native.Mathlib.Omega.{arith}
-use lib.ListN.{length}
-use Rattle.rewind.specs.Stepping.{state_of}
-use Rattle.run_steps.proofs.RunLaws.{Going, going_start, going-asks, going-heads, going-nexts, going-room, going-all, going_end, going-refused, going-made, going-near}
-use borrow.Author.Rules.{rules}
+use Rattle.run_steps.proofs.RunLaws.{going_start, going-asks, going-heads, going-nexts, going-room, going-all, going_end, going-refused, going-made, going-near}
 use Rattle.run_steps.proofs.run.Goals as goal
 
 pub loop-i-init : goal.loop-i-init

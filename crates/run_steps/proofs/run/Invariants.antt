@@ -1,11 +1,9 @@
 -- The invariant: the steps that are left, from where the loop stands, lead to the whole run.
 use Prim.Native.Nat.{◌-◌}
-use mathlib.Core.Path.{◌≡◌, refl, sym, ◌∙◌}
-use native.Mathlib.Omega.{arith}
+use mathlib.Core.Path.{◌≡◌}
 use lib.ListN.{length}
 use Rattle.rewind.specs.Stepping.{state_of}
-use Rattle.run_steps.proofs.RunLaws.{Going, going_start, going-asks, going-heads, going-nexts, going-room, going-all, going_end, going-refused, going-made, going-near}
-use borrow.Author.Rules.{rules}
+use Rattle.run_steps.proofs.RunLaws.{Going}
 use Rattle.run_steps.proofs.run.Given as goal
 
 abbrev pub invariant-loop-i : goal.invariant-loop-i

@@ -1,6 +1,5 @@
 -- By whether a record is left.
 use Rattle.run_steps.proofs.StepLaws.{tests, step_end, own-inside, step-next}
-use borrow.Author.Rules.{rules}
 use Rattle.run_steps.proofs.run_step.Goals as goal
 
 pub returns-then-records-position : goal.returns-then-records-position

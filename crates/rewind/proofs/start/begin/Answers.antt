@@ -1,7 +1,6 @@
 -- By the tests, then by the room of either table, and then all records are added and the used slots copied.
 use mathlib.Core.Path.{ap}
 use native.Mathlib.Omega.{arith}
-use borrow.Author.Tests.{not-true, not-false}
 use lib.ListN.{length}
 use Rattle.entry_slots.specs.Table.{table}
 use Rattle.entry_table.specs.Promise.{outcome}
@@ -10,7 +9,6 @@ use Rattle.entry_table.proofs.SeedLaws.{heads-long, nexts-long, index-again}
 use Rattle.additions.specs.Walking.{walked_back}
 use Rattle.rewind.proofs.StartLaws.{start-refused, start_fits, first-full, first-room, forward-full, starts, start-never, copy-room, copied-room, start-begun}
 use Rattle.rewind.proofs.BeginLaws.{refused-begins, begun-begins}
-use borrow.Author.Rules.{rules}
 use Rattle.rewind.proofs.start.begin.Goals as goal
 
 pub returns-then-refused-ne0 : goal.returns-then-refused-ne0
