@@ -4,12 +4,14 @@
 // parts are written one after the other. Standard error tells that the input is longer, that reading failed, and that writing
 // failed, after which nothing more is written.
 //
-// Every function here is proved safe and to end, and `write_listing` to go through every part of the listing unless a write fails. No
-// contract can say which bytes are read and written: tests/usnlist holds that to the Rust original.
+// Every function here is proved safe and to end, and `write_listing` to go through every part of the listing unless a write fails, and
+// to give a writer the listing's text and nothing else. No contract can say which bytes standard input gives and standard output takes:
+// tests/usnlist holds that to the Rust original.
 #![tactic(auto)]
 
-ghost use Rattle.std.specs.Prelude.{◌*◌, ◌≤◌, ◌≡◌, length};
-ghost use Rattle.usnlist.specs.Promise.{ListPromise, WritePromise};
+ghost use Rattle.std.specs.Prelude.{◌*◌, ◌≤◌, ◌≡◌, length, true};
+ghost use Rattle.std.specs.Io.KnownBytes.{Appends};
+ghost use Rattle.usnlist.specs.Promise.{ListPromise, WritePromise, listing_text, parts_text};
 
 use rewind::Rewind;
 use std::io::{Read, Write};
@@ -139,7 +141,8 @@ fn write_listing<W: Write>(
     forward: &mut [u64],
 ) -> bool
     requires { (length journal.now ≤ 65536) × (length list.old ≡ 2048) }
-    ensures { ListPromise journal first forward result }
+    ensures goes_through { ListPromise journal first forward result }
+    ensures written { result ≡ true → Appends (W.contents out.old) (W.contents out.new) (listing_text journal first forward) }
 {
     let begun = begin(journal, list, first, forward);
     let records = begun.records;
@@ -157,7 +160,8 @@ fn write_parts<W: Write>(
     forward: &mut [u64],
 ) -> bool
     requires { 2 * count ≤ length list.now }
-    ensures { WritePromise journal list count start forward result }
+    ensures goes_through { WritePromise journal list count start forward result }
+    ensures written { result ≡ true → Appends (W.contents out.old) (W.contents out.new) (parts_text journal list count start forward) }
 {
     let mut text = part();
     let mut rewind = start;
@@ -165,7 +169,7 @@ fn write_parts<W: Write>(
     while number < count + 2 {
         let put = put_part(journal, list, count, number, rewind, forward, &mut text);
         let end = put.end;
-        if out.write_all(&text[..end]).is_err() {
+        if let Err(_) = out.write_all(&text[..end]) {
             return false;
         }
         rewind = put.rewind;
