@@ -11,6 +11,7 @@
 
 ghost use Rattle.std.specs.Prelude.{◌*◌, ◌≤◌, ◌≡◌, length, true};
 ghost use Rattle.std.specs.Io.KnownBytes.{Appends};
+ghost use Rattle.usn_lines.specs.Listing.{listing, no_words};
 ghost use Rattle.usnlist.specs.Promise.{ListPromise, WritePromise, listing_text, parts_text};
 
 use rewind::Rewind;
@@ -49,7 +50,8 @@ fn list_words() -> [usize; 2048]
 }
 
 fn table_words() -> [u64; 7168]
-    ensures { 7168 ≡ length result }
+    ensures len { 7168 ≡ length result }
+    ensures zeros { result ≡ no_words }
 {
     [0; 7168]
 }
@@ -61,16 +63,7 @@ fn main(rt: HostRuntime) {
         warn(&rt, "usnlist: reading standard input failed");
     }
     let n = taken(&rt, input.bytes);
-    let mut list = list_words();
-    let mut first = table_words();
-    let mut forward = table_words();
-    if !write_listing(
-        &mut rt.stdout(),
-        &buffer[..n],
-        &mut list,
-        &mut first,
-        &mut forward,
-    ) {
+    if !list_journal(&mut rt.stdout(), &buffer[..n]) {
         warn(&rt, "usnlist: writing standard output failed");
     }
 }
@@ -132,7 +125,18 @@ fn read_some<R: Read>(input: &mut R, buffer: &mut [u8]) -> Input
     }
 }
 
-// The listing of a journal, and whether all of it was written, with words for the list of its records and for two tables.
+// The listing of a journal, and whether all of it was written.
+fn list_journal<W: Write>(out: &mut W, journal: &[u8]) -> bool
+    requires { length journal.now ≤ 65536 }
+    ensures { result ≡ true → Appends (W.contents out.old) (W.contents out.new) (listing journal.now) }
+{
+    let mut list = list_words();
+    let mut first = table_words();
+    let mut forward = table_words();
+    write_listing(out, journal, &mut list, &mut first, &mut forward)
+}
+
+// The same, with words for the list of its records and for two tables.
 fn write_listing<W: Write>(
     out: &mut W,
     journal: &[u8],

@@ -1,0 +1,7 @@
+-- With the words of two tables, all zeros.
+use Rattle.usn_lines.specs.Listing.{listing}
+use Rattle.usnlist.proofs.list_journal.Goals as goal
+
+pub returns : goal.returns
+unfolding listing
+returns g c = λ e. rw (c.table_words-first.ensures.zeros, c.table_words-forward.ensures.zeros) at (c.write_listing.ensures.written e)
