@@ -4,13 +4,13 @@
 // parts are written one after the other. Standard error tells that the input is longer, that reading failed, and that writing
 // failed, after which nothing more is written.
 //
-// Every function here is proved safe and to end, and `write_listing` to go through every part of the listing unless a write fails, and
-// to give a writer the listing's text and nothing else. No contract can say which bytes standard input gives and standard output takes:
-// tests/usnlist holds that to the Rust original.
+// Every function here is proved safe and to end. `read_input` keeps what a reader gives, in its order and without a gap, and
+// `list_journal` gives a writer the listing of a journal and nothing else, unless a write fails. No contract can say which bytes
+// standard input gives and standard output takes: tests/usnlist holds that to the Rust original.
 #![tactic(auto)]
 
-ghost use Rattle.std.specs.Prelude.{◌*◌, ◌≤◌, ◌≡◌, length, true};
-ghost use Rattle.std.specs.Io.KnownBytes.{Appends};
+ghost use Rattle.std.specs.Prelude.{◌*◌, ◌≤◌, ◌<◌, ◌≡◌, length, take, false, true};
+ghost use Rattle.std.specs.Io.KnownBytes.{Appends, Consumes, IsAtEnd};
 ghost use Rattle.usn_lines.specs.Listing.{listing, no_words};
 ghost use Rattle.usnlist.specs.Promise.{ListPromise, WritePromise, listing_text, parts_text};
 
@@ -90,7 +90,9 @@ fn warn(rt: &impl Eprint, line: &str) {
 
 // Reads until the buffer is full, the input ends or a read fails.
 fn read_input<R: Read>(input: &mut R, buffer: &mut [u8]) -> Input
-    ensures { result.bytes ≤ length buffer.old }
+    ensures within { result.bytes ≤ length buffer.old }
+    ensures in_order { Consumes (R.remaining input.old) (R.remaining input.new) (take result.bytes buffer.new) }
+    ensures ended { result.failed ≡ false → result.bytes < length buffer.old → IsAtEnd (R.remaining input.new) }
 {
     let mut n: usize = 0;
     while n < buffer.len() {
@@ -111,7 +113,9 @@ fn read_input<R: Read>(input: &mut R, buffer: &mut [u8]) -> Input
 
 // One read: no bytes where it fails, and at the end of the input.
 fn read_some<R: Read>(input: &mut R, buffer: &mut [u8]) -> Input
-    ensures { result.bytes ≤ length buffer.old }
+    ensures within { result.bytes ≤ length buffer.old }
+    ensures in_order { Consumes (R.remaining input.old) (R.remaining input.new) (take result.bytes buffer.new) }
+    ensures ended { result.failed ≡ false → result.bytes ≡ 0 → 0 < length buffer.old → IsAtEnd (R.remaining input.new) }
 {
     match input.read(buffer) {
         Ok(bytes) => Input {

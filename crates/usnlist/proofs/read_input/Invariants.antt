@@ -1,9 +1,14 @@
--- What is left of the buffer gets less.
-use Rattle.std.proofs.Common.{◌-◌, ◌≤◌, length}
+-- The buffer begins with what was read so far, and what is left of it gets less.
+use Rattle.std.proofs.Common.{◌-◌, ◌≤◌, length, take}
+use Rattle.std.specs.Io.KnownBytes.{Consumes}
 use Rattle.usnlist.proofs.read_input.Given as goal
 
 abbrev pub invariant-loop-n : goal.invariant-loop-n
-invariant-loop-n g l = l.n ≤ length l.buffer
+invariant-loop-n g l =
+    record {
+      within : l.n ≤ length l.buffer;
+      in_order : Consumes (g.R.Read.remaining l.initial.input) (g.R.Read.remaining l.input) (take l.n l.buffer);
+    }
 
 abbrev pub decreases-loop-n : goal.decreases-loop-n
 decreases-loop-n g l = length l.buffer - l.n
