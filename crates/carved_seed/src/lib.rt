@@ -63,8 +63,7 @@ pub fn seed_from_carved(
 }
 
 // The same, answered in numbers.
-#[unsafe(no_mangle)]
-pub extern "C" fn table_seed_entries(
+pub fn table_seed_entries(
     journal: &[u8],
     image: &[u8],
     slots: &mut [u64],
