@@ -5,4 +5,4 @@ pub returns-then-has_reason : goal.returns-then-has_reason
 returns-then-has_reason c = rw (← c.has_reason.ensures, c.if-has_reason.true)
 
 pub returns : goal.returns
-returns c = rw (← c.has_reason.ensures, c.if-has_reason.false) c.has_reason-2.ensures
+returns c = rw (← c.has_reason.ensures, c.if-has_reason.false) (cc)

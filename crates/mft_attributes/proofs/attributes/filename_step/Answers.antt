@@ -11,16 +11,16 @@ pub returns-then-restored_byte-ne0 : goal.returns-then-restored_byte-ne0
 returns-then-restored_byte-ne0 c = stepped _ (non-resident _ _ c.requires.0 (rw length-restored (omega arith)) c.restored_byte.ensures c.if-restored_byte-ne0.true)
 
 pub returns-then-restored_u32-lt66 : goal.returns-then-restored_u32-lt66
-returns-then-restored_u32-lt66 c = stepped _ (short-content _ _ c.requires.0 (rw length-restored (omega arith)) c.restored_byte.ensures c.if-restored_byte-ne0.false c.restored_u32.ensures c.if-restored_u32-lt66.true)
+returns-then-restored_u32-lt66 c = stepped _ (short-content _ _ c.requires.0 (rw length-restored (omega arith)) c.restored_byte.ensures (omega arith) c.restored_u32.ensures c.if-restored_u32-lt66.true)
 
 pub returns-then-next-c : goal.returns-then-next-c
-returns-then-next-c c = stepped _ (past-content _ _ c.requires.0 (rw length-restored (omega arith)) c.restored_byte.ensures c.if-restored_byte-ne0.false c.restored_u32.ensures c.if-restored_u32-lt66.false c.requires.1 c.restored_u16.ensures c.if-next-c.true)
+returns-then-next-c c = stepped _ (past-content _ _ c.requires.0 (rw length-restored (omega arith)) c.restored_byte.ensures (omega arith) c.restored_u32.ensures c.if-restored_u32-lt66.false c.requires.1 c.restored_u16.ensures c.if-next-c.true)
 
 pub returns-then-length-eq0 : goal.returns-then-length-eq0
-returns-then-length-eq0 c = stepped _ (no-units _ _ c.requires.0 (rw length-restored (omega arith)) c.restored_byte.ensures c.if-restored_byte-ne0.false c.restored_u32.ensures c.if-restored_u32-lt66.false c.requires.1 c.restored_u16.ensures c.restored_byte-2.ensures c.if-length-eq0.true)
+returns-then-length-eq0 c = stepped _ (no-units _ _ c.requires.0 (rw length-restored (omega arith)) c.restored_byte.ensures (omega arith) c.restored_u32.ensures c.if-restored_u32-lt66.false c.requires.1 c.restored_u16.ensures c.restored_byte-2.ensures c.if-length-eq0.true)
 
 pub returns-then-next-c-2 : goal.returns-then-next-c-2
-returns-then-next-c-2 c = stepped _ (past-name _ _ c.requires.0 (rw length-restored (omega arith)) c.restored_byte.ensures c.if-restored_byte-ne0.false c.restored_u32.ensures c.if-restored_u32-lt66.false c.requires.1 c.restored_u16.ensures c.restored_byte-2.ensures c.if-next-c-2.true)
+returns-then-next-c-2 c = stepped _ (past-name _ _ c.requires.0 (rw length-restored (omega arith)) c.restored_byte.ensures (omega arith) c.restored_u32.ensures c.if-restored_u32-lt66.false c.requires.1 c.restored_u16.ensures c.restored_byte-2.ensures c.if-next-c-2.true)
 
 pub returns : goal.returns
-returns c = stepped _ (gives-name _ _ c.requires.0 (rw length-restored (omega arith)) c.restored_byte.ensures c.if-restored_byte-ne0.false c.restored_u32.ensures c.if-restored_u32-lt66.false c.requires.1 c.restored_u16.ensures c.restored_byte-2.ensures c.if-length-eq0.false c.if-next-c-2.false (rw length-restored c.requires.3))
+returns c = stepped _ (gives-name _ _ c.requires.0 (rw length-restored (omega arith)) c.restored_byte.ensures (omega arith) c.restored_u32.ensures c.if-restored_u32-lt66.false c.requires.1 c.restored_u16.ensures c.restored_byte-2.ensures c.if-length-eq0.false (omega arith) (rw length-restored c.requires.3))
