@@ -38,6 +38,9 @@ mod random;
 #[path = "../../tests/differential/src/records/layout.rs"]
 mod record_layout;
 #[allow(dead_code)]
+#[path = "../../tests/differential/src/image/restored.rs"]
+mod restored;
+#[allow(dead_code)]
 #[path = "../../tests/differential/src/rewinds/library.rs"]
 mod rewind_library;
 #[path = "../../tests/differential/src/usn/mod.rs"]
@@ -53,6 +56,7 @@ mod paths {
 include!(concat!(env!("OUT_DIR"), "/original.rs"));
 
 use cost::Cost;
+use image::Kind;
 use names::Names;
 use options::{Options, Subject, USAGE};
 use ours::{ImageRoom, Room, CARVER, SCAN};
@@ -170,27 +174,33 @@ fn measure_journal(options: &Options) -> Result<(), String> {
     Ok(())
 }
 
-/// Times the carver of MFT entries and prints the table. Every timing must give what the Rust gives.
+/// Times the carver of MFT entries on an image of each kind and prints the table. Every timing must give what the Rust gives for
+/// the image's restored copy.
 fn measure_image(options: &Options) -> Result<(), String> {
-    let image = &image::generated(options.seed, options.image_mebibytes << 20)[..];
-    println!("image: {} bytes, seed {}", image.len(), options.seed);
-    let (_, expected) = rust::image(image);
-    println!("{} entries are carved", expected.records);
-    let room = ImageRoom {
-        image: image.len(),
-        entries: expected.records,
-    };
-    let task = reading(image, expected);
     let mut table = Table::new(Unit::Bytes);
-    let rust = || rust::image(image);
-    let text = || ours::image_list_and_text(image, room.cleared());
-    let uncleared = || ours::image_list_and_text(image, room.fresh());
-    let list = || ours::image_list(image, room.list_only().cleared());
-    let just_full = || ours::image_list(image, room.just_full().list_only().cleared());
-    table.add("image, list and text", &task, Some(&text), Some(&rust))?;
-    table.add("image, list and text, uncleared", &task, Some(&uncleared), Some(&rust))?;
-    table.add("image, list only", &task, Some(&list), None)?;
-    table.add("image, list only, just full", &task, Some(&just_full), None)?;
+    for kind in Kind::ALL {
+        let image = &image::generated(options.seed, options.image_mebibytes << 20, kind)[..];
+        let copy = &restored::restored(image).bytes[..];
+        let what = |rest: &str| format!("{}, {rest}", kind.name());
+        println!("{}: {} bytes, seed {}", kind.name(), image.len(), options.seed);
+        let (_, expected) = rust::image(copy);
+        println!("{} entries are carved", expected.records);
+        let room = ImageRoom {
+            kind,
+            image: image.len(),
+            entries: expected.records,
+        };
+        let task = reading(image, expected);
+        let rust = || rust::image(copy);
+        let text = || ours::image_list_and_text(image, room.cleared());
+        let uncleared = || ours::image_list_and_text(image, room.fresh());
+        let list = || ours::image_list(image, room.list_only().cleared());
+        let just_full = || ours::image_list(image, room.just_full().list_only().cleared());
+        table.add(&what("list and text"), &task, Some(&text), Some(&rust))?;
+        table.add(&what("list and text, uncleared"), &task, Some(&uncleared), Some(&rust))?;
+        table.add(&what("list only"), &task, Some(&list), None)?;
+        table.add(&what("list only, just full"), &task, Some(&just_full), None)?;
+    }
     table.print();
     Ok(())
 }

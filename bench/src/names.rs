@@ -5,8 +5,12 @@ use crate::random::Random;
 /// The fewest and the most units of a name.
 const UNITS: [usize; 2] = [4, 40];
 
-/// The most bytes of a name's text: a unit gives three at most.
+/// Those of a long name.
+const LONG_UNITS: [usize; 2] = [200, 255];
+
+/// The most bytes of a name's text, and of a long name's: a unit gives three at most.
 pub const LONGEST_TEXT: usize = 3 * UNITS[1];
+pub const LONGEST_LONG_TEXT: usize = 3 * LONG_UNITS[1];
 
 /// Names one after another in UTF-16, little endian, and where each of them ends.
 pub struct Names {
@@ -33,6 +37,12 @@ pub fn generated(seed: u64, count: usize) -> Names {
 /// The units of a name, every number of them as frequent as any other.
 pub fn name(random: &mut Random) -> Vec<u16> {
     let units = random.between(UNITS[0], UNITS[1]);
+    name_of(random, units)
+}
+
+/// The units of a long name, likewise.
+pub fn long_name(random: &mut Random) -> Vec<u16> {
+    let units = random.between(LONG_UNITS[0], LONG_UNITS[1]);
     name_of(random, units)
 }
 

@@ -1,11 +1,14 @@
 //! Our calls, timed.
 
 use crate::cost::{clock, Cost};
+use crate::image::Kind;
 use crate::layout::ENTRY;
 use crate::library::{
-    self, ACCEPTED, ANSWER_WORDS, BUF_SIZE, END, ENTRY_NAME, ENTRY_WORDS, READER_WORDS, RECORD, WANTS, WORDS,
+    self, ACCEPTED, ANSWER_WORDS, BUF_SIZE, END, ENTRY_NAME, ENTRY_WORDS, MFT_CARVING_FIELDS, READER_WORDS, RECORD,
+    WANTS, WORDS,
 };
 use crate::names::{Names, LONGEST_TEXT};
+use crate::paths::library::{path_decode, Sources};
 use crate::sum::Sum;
 use crate::texts::Texts;
 use std::hint::black_box;
@@ -155,15 +158,18 @@ fn give(journal: &[u8], delivery: usize, reader: &mut [u64], buffer: &mut [u8], 
     }
 }
 
-/// How much is lent to the carver of entries: a list for any image of this length, and the texts of so many names.
+/// How much is lent to the carver of entries: a list for any image of this length, and the texts of so many names of an image of
+/// this kind.
 #[derive(Clone, Copy)]
 pub struct ImageRoom {
+    pub kind: Kind,
     pub image: usize,
     pub entries: usize,
 }
 
 /// What is lent to the carver of entries, and to the decoder for the names.
 pub struct ImageMemory {
+    kind: Kind,
     list: Vec<u64>,
     texts: Texts,
 }
@@ -185,8 +191,9 @@ impl ImageRoom {
     /// Memory that the system has not given pages to.
     pub fn fresh(self) -> ImageMemory {
         ImageMemory {
+            kind: self.kind,
             list: vec![0; ENTRY_WORDS * (self.image / ENTRY)],
-            texts: name_texts(self.entries),
+            texts: name_texts(self.entries, self.kind.longest_text()),
         }
     }
 
@@ -202,7 +209,7 @@ impl ImageRoom {
 /// The list alone is timed.
 pub fn image_list(image: &[u8], mut memory: ImageMemory) -> (Cost, Sum) {
     let (cost, entries) = clock(|| carved(image, &mut memory));
-    memory.texts = name_texts(entries);
+    memory.texts = name_texts(entries, memory.kind.longest_text());
     entry_texts(image, &mut memory, entries);
     (cost, memory.sum(entries))
 }
@@ -219,20 +226,34 @@ pub fn image_list_and_text(image: &[u8], mut memory: ImageMemory) -> (Cost, Sum)
 
 /// Lists the entries of an image; gives how many there are.
 fn carved(image: &[u8], memory: &mut ImageMemory) -> usize {
-    let mut out = [0; 4];
+    let mut out = [0; MFT_CARVING_FIELDS.len()];
     let answer = library::mft_carve_entries(image, &mut memory.list, &mut out);
     assert_eq!(answer, ACCEPTED, "the list has room");
     out[2] as usize
 }
 
-/// Writes the text of each listed entry's name.
+/// Writes the text of each listed entry's name. No name lies over a sector's end but the long ones, which are restored.
 fn entry_texts(image: &[u8], memory: &mut ImageMemory, entries: usize) {
-    let places = memory.list.chunks_exact(ENTRY_WORDS).take(entries);
-    let names = places.map(|words| {
-        let [offset, length] = [words[ENTRY_NAME], words[ENTRY_NAME + 1]].map(|word| word as usize);
-        &image[offset..offset + length]
-    });
-    memory.texts.write(names, decoded);
+    let listed = memory.list.chunks_exact(ENTRY_WORDS).take(entries);
+    let places = listed.map(|words| [words[ENTRY_NAME], words[ENTRY_NAME + 1]]);
+    if memory.kind == Kind::LongNames {
+        memory.texts.write(places, |place, text| restored(image, place, text));
+    } else {
+        let names = places.map(|place| {
+            let [offset, length] = place.map(|word| word as usize);
+            &image[offset..offset + length]
+        });
+        memory.texts.write(names, decoded);
+    }
+}
+
+/// Writes the text of the name at a place of the image, with the true ends of its entry's sectors; gives its length.
+fn restored(image: &[u8], [offset, length]: [u64; 2], text: &mut [u8]) -> usize {
+    let mut out = [0];
+    let names = Sources { journal: &[], image };
+    let answer = path_decode(names, [1, offset, length], text, &mut out);
+    assert_eq!(answer, ACCEPTED, "the text has room");
+    out[0] as usize
 }
 
 impl ImageMemory {
@@ -246,9 +267,9 @@ impl ImageMemory {
     }
 }
 
-/// Room for the texts of so many names, in memory that the system has not given pages to.
-fn name_texts(names: usize) -> Texts {
-    Texts::fresh(names, LONGEST_TEXT * names)
+/// Room for so many texts of at most so many bytes, in memory that the system has not given pages to.
+fn name_texts(names: usize, longest: usize) -> Texts {
+    Texts::fresh(names, longest * names)
 }
 
 /// Writes the text of a name; gives its length.
@@ -261,7 +282,7 @@ fn decoded(name: &[u8], text: &mut [u8]) -> usize {
 
 /// The texts of all names are kept.
 pub fn names(names: &Names) -> (Cost, Sum) {
-    let mut texts = black_box(name_texts(names.ends.len()));
+    let mut texts = black_box(name_texts(names.ends.len(), LONGEST_TEXT));
     texts.clear();
     let (cost, ()) = clock(|| texts.write(names.iter(), decoded));
     let mut sum = Sum::default();

@@ -4,7 +4,7 @@ use super::history::History;
 use super::rust::paths;
 use crate::cost::{clock, Cost};
 use crate::layout::ENTRY;
-use crate::library::{mft_carve_entries, usn_parse_journal, ACCEPTED, ENTRY_WORDS};
+use crate::library::{mft_carve_entries, usn_parse_journal, ACCEPTED, ENTRY_WORDS, MFT_CARVING_FIELDS};
 use crate::paths::library::{table_seed, table_seed_indexed, Sources, SLOT_WORDS};
 use crate::rewind::{EntryKey, RewindEngine};
 use crate::rewind_library::{
@@ -246,7 +246,7 @@ fn listed(history: &History) -> Vec<usize> {
 /// The entries of the image, as the carver lists them.
 fn carved(history: &History) -> Vec<u64> {
     let mut list = vec![0; ENTRY_WORDS * (history.image.len() / ENTRY)];
-    let mut out = [0; 4];
+    let mut out = [0; MFT_CARVING_FIELDS.len()];
     let answer = mft_carve_entries(&history.image, &mut list, &mut out);
     assert_eq!(answer, ACCEPTED, "the list has room");
     assert_eq!(out[2] as usize, history.entries, "every entry is carved");
