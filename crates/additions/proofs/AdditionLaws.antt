@@ -5,30 +5,38 @@ use mathlib.Core.Path.{◌≡◌, refl, ap, sym, ◌∙◌}
 use mathlib.Core.List.{List, [], ◌∷◌}
 use mathlib.Core.Bool.{Bool, true, false, cond, ◌||◌}
 use native.Mathlib.Omega.{arith}
-use native.Mathlib.Nat.{add-zero, add-suc, add_comm, zero-add, sub-zero}
+use native.Mathlib.Nat.{add-zero, add-suc, zero-add, sub-zero}
 use native.Mathlib.Numerals.{add-one}
-use borrow.Author.Tests.{le-leb, lt-leb}
+use borrow.Author.Tests.{le-leb}
 use lib.ListN.{length}
 use lib.Dec.{leb}
 use Rattle.base.specs.Outcome.{Outcome, refused, answered}
 use Rattle.entry_slots.specs.Slots.{slots_in, same_key}
 use Rattle.base.specs.Lists.{rows}
 use Rattle.entry_slots.specs.Table.{Table, table, find, is_at, known, Addition, addition}
-use Rattle.additions.specs.Storing.{new_keys, seen, keys_of, adding, used_after, words_after}
+use Rattle.entry_slots.specs.Names.{Lengths, all_inside}
+use Rattle.entry_slots.specs.declared.NamePlace.{NamePlace}
+use Rattle.additions.specs.Storing.{new_keys, seen, keys_of, names_of, adding, used_after, words_after}
 use Rattle.entry_slots.specs.declared.EntryKey.{EntryKey}
 use Rattle.entry_slots.specs.declared.EntryInfo.{EntryInfo}
-use Rattle.entry_slots.specs.declared.slots.Found.{Found}
-use Rattle.entry_slots.specs.declared.slots.Found.TheVariants.{At, Nothing}
+use Rattle.std.specs.Prelude.{Option, Some, None}
+use Rattle.std.specs.Option.{is_some}
 use Rattle.base.proofs.RowLaws.{rows_next, rows_end, map_rows, length-rows}
-use Rattle.entry_slots.proofs.TestLaws.{leb-sub}
 use Rattle.additions.proofs.CountLaws.{new-same, new-at-most, new-first, new_none, Adding, adding-start, adding-slot, adding-next, adding-end, adding-room, added-used, added-refused}
 
--- the key of each addition, and the additions from i on, of so many
+-- the key and the name's place of each addition, and the additions from i on, of so many
 abbrev pub keys_at : (ℕ → Addition) → ℕ → EntryKey
 keys_at f i = (f i).key
 
+abbrev pub names_at : (ℕ → Addition) → ℕ → NamePlace
+names_at f i = (f i).info.name
+
 abbrev pub rows_from : (ℕ → Addition) → ℕ → ℕ → List Addition
 rows_from f count i = rows f i (count - i)
+
+-- what is shown of the names by their numbers is shown of the additions
+pub names-of-rows : (ls : Lengths) (f : ℕ → Addition) (count : ℕ) {b : Bool} → b ≡ all_inside ls (rows (names_at f) 0 count) → b ≡ all_inside ls (names_of (rows f 0 count))
+names-of-rows ls f count e = e ∙ ap (all_inside ls) (sym (map_rows (λ (a : Addition). a.info.name) f 0 count))
 
 -- what code puts together is an addition, where its key and its entry are
 pub same-addition : {k k' : EntryKey} {e e' : EntryInfo} {b b' : Bool} → k ≡ k' → e ≡ e' → b ≡ b' → addition k e b ≡ addition k' e' b'
@@ -54,17 +62,25 @@ seen_more : (t : Table) (keys : ℕ → EntryKey) (i : ℕ) (k : EntryKey) → s
 unfolding seen
 seen_more t keys i k = rw (add-one i)
 
+-- a slot that is found tells that the key is known
+some-at : (f : Option ℕ) → is_some f ≡ is_at f
+some-at (Some i) = refl
+some-at None = refl
+
 -- A loop looks for a key among the first i keys, and has not found it among the first j, nor in the table.
 pub record Looking (t : Table) (keys : ℕ → EntryKey) (k : EntryKey) (j i : ℕ) : Type 0 where
   pub near : j ≤ i
   pub unseen : seen t keys j k ≡ false
 
-module _ (t : Table) (keys : ℕ → EntryKey) (k : EntryKey) (i : ℕ) {f : Found} (e : f ≡ find t k) where
-  pub looking-start : f ≡ Nothing → Looking t keys k 0 i
-  looking-start g = record { near = omega arith; unseen = seen_none t keys k ∙ ap is_at (sym e ∙ g) }
+module _ (t : Table) (keys : ℕ → EntryKey) (k : EntryKey) (i : ℕ) {f : Option ℕ} (e : f ≡ find t k) where
+  by-find : {b : Bool} → b ≡ is_some f → b ≡ seen t keys 0 k
+  by-find g = g ∙ some-at f ∙ ap is_at e ∙ sym (seen_none t keys k)
 
-  pub looking-table : {m : ℕ} → f ≡ At m → true ≡ seen t keys i k
-  looking-table g = sym (seen-later t keys k 0 i (omega arith) (seen_none t keys k ∙ ap is_at (sym e ∙ g)))
+  pub looking-start : {b : Bool} → b ≡ is_some f → b ≡ false → Looking t keys k 0 i
+  looking-start g n = record { near = omega arith; unseen = sym (by-find g) ∙ n }
+
+  pub looking-table : {b : Bool} → b ≡ is_some f → b ≡ true → true ≡ seen t keys i k
+  looking-table g y = sym (seen-later t keys k 0 i (omega arith) (sym (by-find g) ∙ y))
 
 module _ {t : Table} {keys : ℕ → EntryKey} {k : EntryKey} {j i : ℕ} (w : Looking t keys k j i) where
   step : {q : EntryKey} {b : Bool} → q ≡ keys j → b ≡ same_key q k → seen t keys (j + 1) k ≡ b
@@ -75,9 +91,6 @@ module _ {t : Table} {keys : ℕ → EntryKey} {k : EntryKey} {j i : ℕ} (w : L
 
   pub looking-found : {q : EntryKey} {b : Bool} → j < i → q ≡ keys j → b ≡ same_key q k → b ≡ true → true ≡ seen t keys i k
   looking-found h e s y = sym (seen-later t keys k (j + 1) i (omega arith) (step e s ∙ y))
-
-  pub looking-end : i ≤ j → false ≡ seen t keys i k
-  looking-end h = let m : i ≡ j = omega (arith, w.near) in rw m (sym w.unseen)
 
 -- A loop counts the new keys of so many additions, and has counted n among the first i.
 pub record Counting (t : Table) (f : ℕ → Addition) (count n i : ℕ) : Type 0 where
@@ -132,10 +145,6 @@ module _ (t : Table) (f : ℕ → Addition) (count slots : ℕ) (fits : t.used �
   pub room-for-all : count ≤ slots - t.used → true ≡ leb (t.used + new_keys (known t) (keys_of (rows f 0 count))) slots
   room-for-all h = sym (le-leb (t.used + new_keys (known t) (keys_of (rows f 0 count))) slots (omega (arith, few)))
 
-  pub room-counted : {n : ℕ} → n ≡ new_keys (known t) (keys_of (rows f 0 count))
-      → leb n (slots - t.used) ≡ leb (t.used + new_keys (known t) (keys_of (rows f 0 count))) slots
-  room-counted {n} e = leb-sub n t.used slots fits ∙ rw (← e, add_comm t.used n)
-
 -- A loop makes so many additions, and has come to addition i.
 pub record AddingRows (t₀ t : Table) (f : ℕ → Addition) (count i : ℕ) : Type 0 where
   pub near : i ≤ count
@@ -164,7 +173,3 @@ pub rows-added-all : {t₀ t : Table} {f : ℕ → Addition} {count i : ℕ} →
     → t₀.used + new_keys (known t₀) (keys_of (rows f 0 count)) ≤ slots_in t₀.words → adding t₀ (rows f 0 count) ≡ answered t
 rows-added-all {t₀} {t} {f} {count} {i} w h room =
     adding-room t₀ (rows f 0 count) room ∙ ap answered (sym (adding-end w.rest (rows_end f i count h)))
-
--- a table with more slots used than there are has no room
-pub room-short : (used more slots : ℕ) → slots < used → false ≡ leb (used + more) slots
-room-short used more slots h = sym (lt-leb (used + more) slots (omega arith))

@@ -1,8 +1,7 @@
 -- The list that the image carver writes is the list that seeding reads. Assumes nothing.
 use Prim.Native.Nat.{ℕ, zero, suc, ◌+◌, ◌*◌, ◌/◌}
-use mathlib.Core.Path.{◌≡◌, refl, ap, sym, ◌∙◌}
+use mathlib.Core.Path.{◌≡◌, refl, ap, ◌∙◌}
 use mathlib.Core.List.{List, [], ◌∷◌, ◌++◌, map}
-use mathlib.Core.Bool.{Bool}
 use native.Mathlib.Omega.{arith}
 use lib.ListN.{length, get_or}
 use lib.Seq.{get_or-append-add}
@@ -10,11 +9,10 @@ use Rattle.base.specs.Lists.{flatten, rows}
 use Rattle.base.proofs.ListLaws.{length-flatten}
 use Rattle.mft_carver.specs.Carve.{entry_words}
 use Rattle.mft_carver.specs.declared.CarvedMftEntry.{CarvedMftEntry}
-use Rattle.entry_slots.specs.Names.{Lengths, all_inside}
-use Rattle.base.proofs.RowLaws.{map_rows}
+use Rattle.entry_slots.specs.Names.{Lengths}
 use Rattle.entry_slots.specs.Table.{Table, Addition}
-use Rattle.additions.specs.Storing.{names_of, storing}
-use Rattle.additions.specs.Carved.{row, carved_at, carved_name, carved_in, addition_of, seeding}
+use Rattle.additions.specs.Storing.{storing}
+use Rattle.additions.specs.Carved.{row, carved_at, carved_in, addition_of, seeding}
 
 -- rows that are those of another list, one further on
 rows-shift : {A : Type 0} (f g : ℕ → A) → ((m : ℕ) → f (m + 1) ≡ g m) → (i n : ℕ) → rows f (i + 1) n ≡ rows g i n
@@ -55,7 +53,3 @@ carved-entries xs =
 -- so that seeding with a carver's list stores what its entries say
 pub seeding-carved : (ls : Lengths) (t : Table) (xs : List CarvedMftEntry) → seeding ls t (flatten entry_words xs) ≡ storing ls t (map addition_of xs)
 seeding-carved ls t xs = ap (storing ls t) (carved-entries xs)
-
--- what is shown of the rows of a carved list is shown of its additions
-pub carved-names : (ls : Lengths) (es : List ℕ) {b : Bool} → b ≡ all_inside ls (rows (carved_name es) 0 (length es / row)) → b ≡ all_inside ls (names_of (carved_in es))
-carved-names ls es e = e ∙ ap (all_inside ls) (sym (map_rows _ (carved_at es) 0 (length es / row)))

@@ -2,19 +2,19 @@
 use Prim.Native.Nat.{ℕ, ◌+◌, ◌/◌, ◌%◌, ◌≤◌}
 use mathlib.Core.Path.{◌≡◌, refl, ap, sym, ◌∙◌}
 use mathlib.Core.List.{List}
-use mathlib.Core.Bool.{Bool, true, false}
+use Rattle.std.specs.Prelude.{Result, Ok}
+use mathlib.Core.Bool.{Bool, true}
 use native.Mathlib.Omega.{arith}
 use borrow.Author.Tests.{le-leb}
 use lib.ListN.{length}
 use lib.Dec.{eqb}
-use Rattle.base.specs.Outcome.{Outcome, refused, answered, map_outcome}
-use Rattle.base.specs.Places.{empty_place, place_from}
+use Rattle.base.specs.Outcome.{Outcome, refused, answered, outcome, map_outcome}
+use Rattle.base.specs.Places.{place_from}
 use Rattle.base.specs.declared.Place.{Place}
 use Rattle.base.proofs.ChoiceLaws.{cond_cases}
-use Rattle.usn_record.specs.Record.{listed, outcome, is_answered}
+use Rattle.usn_record.specs.Record.{listed, is_answered}
 use Rattle.usn_record.specs.declared.UsnRecord.{UsnRecord}
-use Rattle.usn_record.specs.declared.Parsed.{Parsed}
-use Rattle.usn_record.specs.declared.Parsed.TheVariants.{Record, Refused}
+use Rattle.base.specs.declared.refusal.Refusal.{Refusal}
 use Rattle.usn_record.proofs.NameLaws.{listed-name, listed-whole}
 use Rattle.entry_slots.specs.Names.{lengths, inside}
 use Rattle.entry_slots.specs.Table.{addition}
@@ -27,14 +27,6 @@ pub reason-tested : (bit reasons : ℕ) → eqb (reasons / bit % 2) 1 ≡ has_re
 unfolding has_reason
 reason-tested bit reasons = refl
 
--- what a listed record's name place comes to
-pub name-empty : (o : ℕ) (p : Place) → p.length ≡ 0 → from_journal empty_place ≡ from_journal (place_from o p)
-name-empty o p e = rw e
-
-pub name-moved : (o : ℕ) (p : Place) → eqb p.length 0 ≡ false
-    → ◌≡◌ {A = NamePlace} (record { source = 0; offset = o + p.offset; length = p.length }) (from_journal (place_from o p))
-name-moved o p e = rw e
-
 -- an entry is known where a record is listed
 answered-mapped : {A B : Type 0} (f : A → B) (x : Outcome A) → is_answered x ≡ is_answered (map_outcome f x)
 answered-mapped f (refused n) = refl
@@ -43,15 +35,8 @@ answered-mapped f (answered a) = refl
 pub record-tested : (s : List ℕ) (o : ℕ) {r : Bool} → r ≡ is_answered (listed s o) → r ≡ is_answered (entry_at s o)
 record-tested s o e = e ∙ answered-mapped (entry_from o) (listed s o)
 
-module _ (s : List ℕ) (o : ℕ) {p : Parsed} (e : outcome p ≡ listed s o) where
-  module _ {m : ℕ} (g : p ≡ Refused m) where
-    none : listed s o ≡ refused m
-    none = sym e ∙ ap outcome g
-
-    pub no-entry : entry_or (refused 0) ≡ entry_or (entry_at s o)
-    no-entry = rw none
-
-  module _ {r : UsnRecord} (g : p ≡ Record r) where
+module _ (s : List ℕ) (o : ℕ) {p : Result UsnRecord Refusal} (e : outcome p ≡ listed s o) where
+  module _ {r : UsnRecord} (g : p ≡ Ok r) where
     is : listed s o ≡ answered r
     is = sym e ∙ ap outcome g
 

@@ -8,8 +8,7 @@ use lib.ListN.{length, get_or}
 use Rattle.entry_slots.specs.Slots.{stride}
 use Rattle.entry_slots.specs.Table.{Table, find, Addition, add_found, add}
 use Rattle.additions.specs.Storing.{add_all}
-use Rattle.entry_slots.specs.declared.slots.Found.{Found}
-use Rattle.entry_slots.specs.declared.slots.Found.TheVariants.{At, Nothing}
+use Rattle.std.specs.Prelude.{Option, Some, None}
 use Rattle.entry_slots.proofs.PutLaws.{length-put, put-after}
 use Rattle.entry_slots.proofs.TableLaws.{find-used}
 
@@ -34,8 +33,8 @@ pub add-keeps : (t : Table) (a : Addition) → Kept t (add t a)
 unfolding add_found
 add-keeps t a = go (find t a.key) refl a.replace refl
   where
-    go : (f : Found) → find t a.key ≡ f → (r : Bool) → a.replace ≡ r → Kept t (add_found t a f)
-    go (At i) e true r =
+    go : (f : Option ℕ) → find t a.key ≡ f → (r : Bool) → a.replace ≡ r → Kept t (add_found t a f)
+    go (Some i) e true r =
         rw r
         (let below : i < t.used = find-used t a.key i e in
         record {
@@ -43,8 +42,8 @@ add-keeps t a = go (find t a.key) refl a.replace refl
           long = length-put t.words i a.key a.info;
           after = λ p h. put-after t.words i a.key a.info p (omega arith);
         })
-    go (At i) e false r = rw r (kept-itself t)
-    go Nothing e r q =
+    go (Some i) e false r = rw r (kept-itself t)
+    go None e r q =
         record {
           grows = omega arith;
           long = length-put t.words t.used a.key a.info;

@@ -6,5 +6,4 @@ pub mod KeptLaws
 pub mod CallLaws
 pub mod CarverLaws
 pub mod EntryLaws
-pub mod SourceLaws
 pub mod Examples

@@ -19,8 +19,7 @@ use Rattle.entry_slots.specs.Table.{Table, table, find, slot_for, known, Additio
 use Rattle.additions.specs.Storing.{adding, used_after, words_after}
 use Rattle.entry_slots.specs.declared.EntryKey.{EntryKey}
 use Rattle.entry_slots.specs.declared.EntryInfo.{EntryInfo}
-use Rattle.entry_slots.specs.declared.slots.Found.{Found}
-use Rattle.entry_slots.specs.declared.slots.Found.TheVariants.{At, Nothing}
+use Rattle.std.specs.Prelude.{Option, Some, None}
 use Rattle.entry_slots.proofs.NameLaws.{all-inside-at, at_every}
 use Rattle.entry_slots.proofs.PutLaws.{sets-before, sets-at, sets-after, put-info, put-info-other}
 use Rattle.entry_slots.proofs.TableLaws.{find-used, used-added, length-added, by-find}
@@ -150,6 +149,6 @@ module _ (t : Table) (a : Addition) (room : t.used + cond (known t a.key) 0 1 �
 pub slot-full : (t : Table) (a : Addition) → t.used ≤ slots_in t.words → slots_in t.words ≤ slot_for t a.key → adding t (a ∷ []) ≡ refused table_full
 slot-full t a fits h = go (find t a.key) refl
   where
-    go : (f : Found) → find t a.key ≡ f → adding t (a ∷ []) ≡ refused table_full
-    go (At i) e = let b : i < t.used = find-used t a.key i e in let k : slots_in t.words ≤ i = rw e at h in absurd (omega arith)
-    go Nothing e = let k : slots_in t.words ≤ t.used = rw e at h in add-full t a (sym e) refl k
+    go : (f : Option ℕ) → find t a.key ≡ f → adding t (a ∷ []) ≡ refused table_full
+    go (Some i) e = let b : i < t.used = find-used t a.key i e in let k : slots_in t.words ≤ i = rw e at h in absurd (omega arith)
+    go None e = let k : slots_in t.words ≤ t.used = rw e at h in add-full t a (sym e) refl k

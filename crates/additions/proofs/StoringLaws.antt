@@ -13,8 +13,7 @@ use Rattle.entry_slots.specs.Names.{Lengths, all_inside}
 use Rattle.entry_slots.specs.Slots.{slots_in, put_at}
 use Rattle.entry_slots.specs.Table.{Table, table, find, known, Addition, add_found, add}
 use Rattle.additions.specs.Storing.{add_all, new_keys, keys_of, names_of, adding, storing}
-use Rattle.entry_slots.specs.declared.slots.Found.{Found}
-use Rattle.entry_slots.specs.declared.slots.Found.TheVariants.{At, Nothing}
+use Rattle.std.specs.Prelude.{Option, Some, None}
 
 -- one addition: it wants a slot where its key is new
 pub adding-one : (t : Table) (a : Addition)
@@ -27,22 +26,22 @@ pub adding-full : (t : Table) (xs : List Addition) → slots_in t.words < t.used
 unfolding adding
 adding-full t xs h = rw (adding, lt-ltb _ _ h)
 
-module _ (t : Table) (a : Addition) {f : Found} (e : f ≡ find t a.key) where
-  pub add-over : {i : ℕ} → f ≡ At i → t.used ≤ slots_in t.words → a.replace ≡ true
+module _ (t : Table) (a : Addition) {f : Option ℕ} (e : f ≡ find t a.key) where
+  pub add-over : {i : ℕ} → f ≡ Some i → t.used ≤ slots_in t.words → a.replace ≡ true
       → adding t (a ∷ []) ≡ answered (table (put_at t.words i a.key a.info) t.used)
   unfolding add_found
   add-over g h r = adding-one t a ∙ rw (← e, g, add-zero t.used, le-ltb _ _ h, r)
 
-  pub add_kept : {i : ℕ} → f ≡ At i → t.used ≤ slots_in t.words → a.replace ≡ false → adding t (a ∷ []) ≡ answered t
+  pub add_kept : {i : ℕ} → f ≡ Some i → t.used ≤ slots_in t.words → a.replace ≡ false → adding t (a ∷ []) ≡ answered t
   unfolding add_found
   add_kept g h r = adding-one t a ∙ rw (← e, g, add-zero t.used, le-ltb _ _ h, r)
 
-  pub add-new : f ≡ Nothing → t.used < slots_in t.words
+  pub add-new : f ≡ None → t.used < slots_in t.words
       → adding t (a ∷ []) ≡ answered (table (put_at t.words t.used a.key a.info) (t.used + 1))
   unfolding add_found
   add-new g h = adding-one t a ∙ rw (← e, g, le-ltb (slots_in t.words) (t.used + 1) (omega arith))
 
-  pub add-full : f ≡ Nothing → slots_in t.words ≤ t.used → adding t (a ∷ []) ≡ refused table_full
+  pub add-full : f ≡ None → slots_in t.words ≤ t.used → adding t (a ∷ []) ≡ refused table_full
   unfolding add_found
   add-full g h = adding-one t a ∙ rw (← e, g, lt-ltb (slots_in t.words) (t.used + 1) (omega arith))
 

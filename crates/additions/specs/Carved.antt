@@ -34,9 +34,12 @@ carved_info es i = record { parent = key_in es (i * row + 5); name = carved_name
 abbrev pub carved_at : List ℕ → ℕ → Addition
 carved_at es i = addition (carved_key es i) (carved_info es i) false
 
--- the whole entries of a list
+-- the whole entries of a list, and how many they are
+abbrev pub carved_count : List ℕ → ℕ
+carved_count es = length es / row
+
 abbrev pub carved_in : List ℕ → List Addition
-carved_in es = rows (carved_at es) 0 (length es / row)
+carved_in es = rows (carved_at es) 0 (carved_count es)
 
 -- what a carved entry adds
 abbrev pub addition_of : CarvedMftEntry → Addition

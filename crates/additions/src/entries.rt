@@ -7,7 +7,7 @@ ghost use Rattle.additions.specs.Walking.{records_in, last_entry};
 use base::Place;
 use entry_slots::names::JOURNAL;
 use entry_slots::{EntryInfo, EntryKey, NamePlace};
-use usn_record::{Parsed, listed_record};
+use usn_record::listed_record;
 
 // The reasons that decide what becomes of a record.
 const FILE_CREATE: u32 = 0x100;
@@ -17,7 +17,7 @@ const RENAME_OLD_NAME: u32 = 0x1000;
 const RENAME_NEW_NAME: u32 = 0x2000;
 
 // What a record says: the key of its file, the folder it stands in and its name, and the reasons of the change.
-#[derive(Clone, Copy)]
+#[derive(Clone, Copy, Default)]
 pub struct RecordEntry {
     pub key: EntryKey,
     pub info: EntryInfo,
@@ -55,11 +55,7 @@ fn name_from(offset: usize, name: Place) -> NamePlace
     ensures { result ≡ from_journal (place_from offset name) }
 {
     if name.length == 0 {
-        return NamePlace {
-            source: JOURNAL,
-            offset: 0,
-            length: 0,
-        };
+        return NamePlace::default();
     }
     NamePlace {
         source: JOURNAL,
@@ -72,42 +68,22 @@ fn name_from(offset: usize, name: Place) -> NamePlace
 pub fn entry_at(journal: &[u8], offset: usize) -> RecordEntry
     ensures { result ≡ entry_or (entry_at journal.now offset) }
 {
-    match listed_record(journal, offset) {
-        Parsed::Refused(_) => {
-            let nowhere = EntryKey {
-                entry: 0,
-                sequence: 0,
-            };
-            let name = NamePlace {
-                source: JOURNAL,
-                offset: 0,
-                length: 0,
-            };
-            RecordEntry {
-                key: nowhere,
-                info: EntryInfo {
-                    parent: nowhere,
-                    name,
-                },
-                reason: 0,
-            }
-        }
-        Parsed::Record(r) => {
-            let key = EntryKey {
-                entry: r.mft_entry,
-                sequence: r.mft_sequence as u64,
-            };
-            let parent = EntryKey {
-                entry: r.parent_mft_entry,
-                sequence: r.parent_mft_sequence as u64,
-            };
-            let name = name_from(offset, r.filename);
-            RecordEntry {
-                key,
-                info: EntryInfo { parent, name },
-                reason: r.reason,
-            }
-        }
+    let Ok(record) = listed_record(journal, offset) else {
+        return RecordEntry::default();
+    };
+    RecordEntry {
+        key: EntryKey {
+            entry: record.mft_entry,
+            sequence: record.mft_sequence as u64,
+        },
+        info: EntryInfo {
+            parent: EntryKey {
+                entry: record.parent_mft_entry,
+                sequence: record.parent_mft_sequence as u64,
+            },
+            name: name_from(offset, record.filename),
+        },
+        reason: record.reason,
     }
 }
 

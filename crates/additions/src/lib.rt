@@ -7,3 +7,4 @@
 pub mod carved;
 pub mod entries;
 pub mod room;
+pub mod source;

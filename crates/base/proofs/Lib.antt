@@ -5,3 +5,4 @@ pub mod WordLaws
 pub mod AgreeLaws
 pub mod MaskedLaws
 pub mod RowLaws
+pub mod RefusalLaws

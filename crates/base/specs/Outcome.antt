@@ -1,9 +1,16 @@
 -- The outcome of a call: a refusal's number, or what it answers.
-use Rattle.std.specs.Prelude.{ℕ, List, [], ◌∷◌}
+use Rattle.std.specs.Prelude.{ℕ, List, [], ◌∷◌, Result, Ok, Err}
+use Rattle.base.specs.Refusals.{number_of}
+use Rattle.base.specs.declared.refusal.Refusal.{Refusal}
 
 pub data Outcome (A : Type 0) : Type 0 where
   refused : ℕ → Outcome A
   answered : A → Outcome A
+
+-- what a call's result says
+abbrev pub outcome : {A : Type 0} → Result A Refusal → Outcome A
+outcome (Err r) = refused (number_of r)
+outcome (Ok a) = answered a
 
 -- what is done with an answer; a refusal stays
 abbrev pub map_outcome : {A B : Type 0} → (A → B) → Outcome A → Outcome B

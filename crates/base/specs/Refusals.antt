@@ -1,5 +1,7 @@
 -- The numbers of the refusals, and the sizes up to which the calls answer.
 use Rattle.std.specs.Prelude.{ℕ}
+use Rattle.base.specs.declared.refusal.Refusal.{Refusal}
+use Rattle.base.specs.declared.refusal.Refusal.TheVariants.{AboveDomain, ShortSlice, BadLength, LengthPastSlice, ListFull, TableFull, NameOutside, TextFull, BadState, TooManyBytes, BadBuffer, NotARecord}
 
 -- a slice, an image or a stream is longer than is read
 abbrev pub above_domain : ℕ
@@ -48,6 +50,21 @@ bad_buffer = 11
 -- a listed offset has no version 2 or 3 record that its parser accepts
 abbrev pub not_a_record : ℕ
 not_a_record = 12
+
+-- the number of a refusal
+abbrev pub number_of : Refusal → ℕ
+number_of AboveDomain = above_domain
+number_of ShortSlice = short_slice
+number_of BadLength = bad_length
+number_of LengthPastSlice = length_past_slice
+number_of ListFull = list_full
+number_of TableFull = table_full
+number_of NameOutside = name_outside
+number_of TextFull = text_full
+number_of BadState = bad_state
+number_of TooManyBytes = too_many_bytes
+number_of BadBuffer = bad_buffer
+number_of NotARecord = not_a_record
 
 -- the most bytes of an extract or an image
 abbrev pub domain : ℕ

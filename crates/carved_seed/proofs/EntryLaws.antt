@@ -2,34 +2,13 @@
 use Prim.Native.Nat.{ℕ, zero, suc, ◌+◌}
 use mathlib.Core.Path.{◌≡◌, refl, ap, ◌∙◌}
 use mathlib.Core.List.{List, [], ◌∷◌, map}
-use mathlib.Core.Bool.{false}
 use native.Mathlib.Numerals.{add-one}
-use lib.ListN.{length, get_or}
+use lib.ListN.{length}
 use Rattle.mft_carver.specs.declared.CarvedMftEntry.{CarvedMftEntry}
 use Rattle.base.specs.Lists.{rows}
 use Rattle.entry_slots.specs.Table.{Addition}
 use Rattle.additions.specs.Carved.{addition_of}
-
--- entry i of a list; past its end, one of zeros
-abbrev pub none : CarvedMftEntry
-none =
-    record {
-      offset = 0;
-      entry_number = 0;
-      sequence_number = 0;
-      filename = record { offset = 0; length = 0 };
-      parent_entry = 0;
-      parent_sequence = 0;
-      is_directory = false;
-      is_in_use = false;
-    }
-
-abbrev pub entry_at : List CarvedMftEntry → ℕ → CarvedMftEntry
-entry_at es i = get_or es i none
-
--- what it adds
-abbrev pub added_at : List CarvedMftEntry → ℕ → Addition
-added_at es i = addition_of (entry_at es i)
+use Rattle.carved_seed.specs.Entries.{added_at}
 
 -- rows that are those of another list, one further on
 rows-shift : {A : Type 0} (f g : ℕ → A) → ((m : ℕ) → f (m + 1) ≡ g m) → (i n : ℕ) → rows f (i + 1) n ≡ rows g i n

@@ -1,4 +1,5 @@
--- The entries inserted if absent, one after the other, once the tests are passed: where the walk stands, a turn, and what it comes to. Assumes nothing.
+-- Seeding is its tests, one after the other, and then the entries inserted if absent, one after the other: where such a walk stands, a turn of it, and what it
+-- comes to. Assumes nothing.
 use Prim.Native.Nat.{ℕ, ◌+◌, ◌≤◌, ◌<◌}
 use mathlib.Core.Path.{◌≡◌, refl, ap, sym, ◌∙◌}
 use mathlib.Core.List.{List, [], ◌∷◌}
@@ -6,12 +7,12 @@ use mathlib.Core.Bool.{true, false}
 use native.Mathlib.Omega.{arith}
 use borrow.Author.Tests.{ltb-true, ltb-false, leb-true, leb-false}
 use lib.Dec.{ltb}
-use Rattle.base.specs.Outcome.{Outcome, refused, answered}
-use Rattle.base.specs.Refusals.{bad_state, name_outside, table_full}
+use Rattle.base.specs.Outcome.{Outcome, refused, answered, outcome}
+use Rattle.base.specs.Refusals.{bad_state, name_outside, table_full, number_of}
 use Rattle.base.proofs.ChoiceLaws.{cond_cases}
 use Rattle.entry_slots.specs.Names.{Lengths, inside, all_inside}
 use Rattle.entry_slots.specs.Slots.{slots_in}
-use Rattle.base.specs.Lists.{rows}
+use Rattle.base.specs.Lists.{every, rows}
 use Rattle.entry_slots.specs.Table.{Table, table, Addition, addition}
 use Rattle.entry_slots.specs.declared.EntryKey.{EntryKey}
 use Rattle.entry_slots.specs.declared.EntryInfo.{EntryInfo}
@@ -20,10 +21,20 @@ use Rattle.entry_slots.proofs.NameLaws.{all-inside-at, one_inside}
 use Rattle.additions.specs.Storing.{new_in, fits, names_of, adding, storing, inserting, used_after, words_after}
 use Rattle.additions.proofs.StoringLaws.{adding-full, stored-bad-state, stored-outside, stored-inside}
 use Rattle.additions.proofs.AdditionLaws.{AddingRows, rows_start, rows-added, rows-refused, rows-added-all}
-use Rattle.entry_table.specs.Promise.{outcome, Stores}
-use Rattle.entry_table.specs.declared.Stored.{Stored}
-use Rattle.carved_seed.proofs.NameLaws.{names-none, names-handed}
+use Rattle.entry_table.specs.Promise.{Stores}
+use Rattle.base.specs.declared.refusal.Refusal.{Refusal}
+use Rattle.std.specs.Prelude.{Result, Ok, Err}
 use Rattle.carved_seed.specs.Tests.{state_tested, names_tested, room_tested, onward, used_in}
+
+-- the test of names: of none, and after a refusal, which is handed on whatever is left
+names-none : (ls : Lengths) (o : Outcome ℕ) → names_tested ls [] o ≡ o
+unfolding names_tested every
+names-none ls (refused n) = refl
+names-none ls (answered used) = refl
+
+names-handed : (ls : Lengths) (xs ys : List Addition) (n : ℕ) → names_tested ls xs (refused n) ≡ names_tested ls ys (refused n)
+unfolding names_tested
+names-handed ls xs ys n = refl
 
 -- The tests are passed, and the entries before number i are inserted.
 pub record Inserting (ls : Lengths) (t₀ : Table) (f : ℕ → Addition) (count i : ℕ) (t : Table) : Type 0 where
@@ -86,7 +97,7 @@ module _ (ls : Lengths) (t₀ : Table) (f : ℕ → Addition) (count : ℕ) wher
   stands-first e e₁ e₂ e₃ h = rw (h, e₃, e₂, e₁, ← e) stands-tested
 
   -- a turn: what inserting entry i if absent leaves
-  pub stands-next : {s s' : List ℕ} {o : Outcome ℕ} {i used : ℕ} {k : EntryKey} {e : EntryInfo} {r : Stored} → Stands ls t₀ f count s o i → i < count
+  pub stands-next : {s s' : List ℕ} {o : Outcome ℕ} {i used : ℕ} {k : EntryKey} {e : EntryInfo} {r : Result ℕ Refusal} → Stands ls t₀ f count s o i → i < count
       → used ≡ used_in o → addition k e false ≡ f i → Stores (inserting ls (table s used) k e false) s r s' → Stands ls t₀ f count s' (outcome r) (i + 1)
   stands-next (over n es eo ei q) l h a w = absurd (omega arith)
   stands-next {s} {s'} {o} {i} {used} {k} {e} {r} (inserted u eo v) l h a w = go (adding (table s u) (addition k e false ∷ [])) refl
@@ -111,8 +122,42 @@ module _ (ls : Lengths) (t₀ : Table) (f : ℕ → Addition) (count : ℕ) wher
           })
 
   -- past the last entry, what is answered and left is what storing does
-  pub stands-over : {s : List ℕ} {i : ℕ} {r : Stored} → Stands ls t₀ f count s (outcome r) i → count ≤ i → Stores (storing ls t₀ xs) t₀.words r s
+  pub stands-over : {s : List ℕ} {i : ℕ} {r : Result ℕ Refusal} → Stands ls t₀ f count s (outcome r) i → count ≤ i → Stores (storing ls t₀ xs) t₀.words r s
   stands-over (over n es eo ei q) l = record { answer = eo ∙ sym (ap used_after q); slots-are = es ∙ sym (ap (λ (x : Outcome Table). words_after x t₀.words) q) }
   stands-over {s} (inserted u eo v) l =
       let q : storing ls t₀ xs ≡ answered (table s u) = v.all ∙ rows-added-all v.added l v.room in
       record { answer = eo ∙ sym (ap used_after q); slots-are = sym (ap (λ (x : Outcome Table). words_after x t₀.words) q) }
+
+  -- by the tests: where one refuses, and where none does
+  pub seed-refused : {k : Refusal} → storing ls t₀ xs ≡ refused (number_of k) → Stores (storing ls t₀ xs) t₀.words (Err k) t₀.words
+  seed-refused q = record { answer = sym (ap used_after q); slots-are = sym (ap (λ (x : Outcome Table). words_after x t₀.words) q) }
+
+  pub inserting-start : t₀.used ≤ slots_in t₀.words → all_inside ls (names_of xs) ≡ true → fits t₀ xs (slots_in t₀.words) ≡ true → Inserting ls t₀ f count 0 t₀
+  inserting-start g q e =
+      record {
+        inside-all = sym (ap (all_inside ls) (map_rows _ f 0 count)) ∙ q;
+        all = stored-inside ls t₀ xs g q;
+        room = leb-true _ _ e;
+        added = rows_start t₀ f count (leb-true _ _ e);
+      }
+
+  -- a turn is not refused, and leads to the next one
+  module _ {s s' : List ℕ} {i u : ℕ} {k : EntryKey} {e : EntryInfo} {r : Result ℕ Refusal} (v : Inserting ls t₀ f count i (table s u)) (l : i < count)
+      (a : addition k e false ≡ f i) (w : Stores (inserting ls (table s u) k e false) s r s') where
+    name-inside : inside ls e.name ≡ true
+    name-inside = ap (λ (x : Addition). inside ls x.info.name) a ∙ all-inside-at ls (λ j. (f j).info.name) 0 count i v.inside-all (omega arith) (omega arith)
+
+    as-adding : inserting ls (table s u) k e false ≡ adding (table s u) (addition k e false ∷ [])
+    as-adding = stored-inside ls (table s u) (addition k e false ∷ []) (omega (arith, v.added.rest.room)) (one_inside ls e.name refl name-inside)
+
+    pub inserting-never : {q : Refusal} → r ≡ Err q → ⊥
+    inserting-never h = rows-refused v.added l a (w.answer ∙ ap used_after as-adding) (ap outcome h)
+
+    pub inserting-next : {n : ℕ} → r ≡ Ok n → Inserting ls t₀ f count (i + 1) (table s' n)
+    inserting-next h =
+        record {
+          inside-all = v.inside-all;
+          all = v.all;
+          room = v.room;
+          added = rows-added v.added l a (w.answer ∙ ap used_after as-adding) (ap outcome h) (w.slots-are ∙ ap (λ (x : Outcome Table). words_after x s) as-adding);
+        }

@@ -1,3 +1,3 @@
 pub mod Tests
-pub mod Pairs
+pub mod Entries
 pub mod Promise

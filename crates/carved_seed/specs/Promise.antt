@@ -1,6 +1,6 @@
 -- What the calls promise. Each record says it of lists: what the lent slices hold before, and, with ', after, where storing comes to o. The promise
 -- itself takes the call's parameters.
-use Rattle.std.specs.Prelude.{ℕ, ◌≡◌, List, map}
+use Rattle.std.specs.Prelude.{ℕ, ◌≡◌, List, map, Result}
 use Rattle.std.specs.Borrow.{Bor}
 use denote.Triple.Both.{Both}
 use Rattle.base.specs.Lent.{Lent, MutLent, before, before_mut, after}
@@ -11,7 +11,7 @@ use Rattle.entry_slots.specs.Table.{Table, table}
 use Rattle.additions.specs.Storing.{storing, used_after, words_after}
 use Rattle.additions.specs.Carved.{addition_of}
 use Rattle.entry_table.specs.Promise.{Stores}
-use Rattle.entry_table.specs.declared.Stored.{Stored}
+use Rattle.base.specs.declared.refusal.Refusal.{Refusal}
 use Rattle.carved_seed.specs.declared.Seeded.{Seeded}
 
 -- a lent slice of carved entries
@@ -36,7 +36,7 @@ module _ (journal image : Lent) (slots : MutLent) (used : ℕ) (entries : LentEn
   abbrev pub seed_out : Outcome Table
   seed_out = seeded_from (before journal) (before image) (before_mut slots) used entries.entry.now
 
-  abbrev pub SeedFromCarvedPromise : Stored → Type 0
+  abbrev pub SeedFromCarvedPromise : Result ℕ Refusal → Type 0
   SeedFromCarvedPromise r = Stores seed_out (before_mut slots) r (after slots)
 
   abbrev pub SeedEntriesPromise : Seeded → Type 0

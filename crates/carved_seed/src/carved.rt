@@ -1,41 +1,64 @@
-// What a carved entry says: its key, its parent and where its name lies.
-ghost use Rattle.std.specs.Prelude.{◌≡◌};
+// The carved entries of a lent slice as a source of additions.
+ghost use Rattle.std.specs.Prelude.{◌≡◌, length};
 ghost use Rattle.additions.specs.Carved.{addition_of};
+ghost use Rattle.carved_seed.specs.Entries.{added_at};
 
 use additions::carved::IMAGE;
+use additions::source::Source;
 use entry_slots::{EntryInfo, EntryKey, NamePlace};
 use mft_carver::CarvedMftEntry;
 
-// The key of an entry.
-pub(crate) fn key_of(c: CarvedMftEntry) -> EntryKey
-    ensures { result ≡ (addition_of c).key }
+// The key of a carved entry. A From would be one for a type of another crate.
+pub(crate) fn key_of(entry: CarvedMftEntry) -> EntryKey
+    ensures { result ≡ (addition_of entry).key }
 {
     EntryKey {
-        entry: c.entry_number,
-        sequence: c.sequence_number as u64,
+        entry: entry.entry_number,
+        sequence: entry.sequence_number as u64,
     }
 }
 
-// Where its name lies.
-pub(crate) fn name_of(c: CarvedMftEntry) -> NamePlace
-    ensures { result ≡ (addition_of c).info.name }
-{
-    NamePlace {
-        source: IMAGE,
-        offset: c.filename.offset as u64,
-        length: c.filename.length as u64,
-    }
-}
-
-// What it says of its key.
-pub(crate) fn info_of(c: CarvedMftEntry) -> EntryInfo
-    ensures { result ≡ (addition_of c).info }
+// What it says of its key, by a function for the same reason.
+pub(crate) fn info_of(entry: CarvedMftEntry) -> EntryInfo
+    ensures { result ≡ (addition_of entry).info }
 {
     EntryInfo {
         parent: EntryKey {
-            entry: c.parent_entry,
-            sequence: c.parent_sequence as u64,
+            entry: entry.parent_entry,
+            sequence: entry.parent_sequence as u64,
         },
-        name: name_of(c),
+        name: NamePlace {
+            source: IMAGE,
+            offset: entry.filename.offset as u64,
+            length: entry.filename.length as u64,
+        },
+    }
+}
+
+// Carved entries, as the image carver's own struct has them.
+#[derive(Clone, Copy)]
+pub(crate) struct CarvedEntries<'a> {
+    pub(crate) entries: &'a [CarvedMftEntry],
+}
+
+impl<'a> Source for CarvedEntries<'a> {
+    ghost many = { λ s. length s.entries.now };
+
+    ghost added = { λ s. added_at s.entries.now };
+
+    fn count(self) -> usize {
+        self.entries.len()
+    }
+
+    fn key(self, i: usize) -> EntryKey {
+        key_of(self.entries[i])
+    }
+
+    fn info(self, i: usize) -> EntryInfo {
+        info_of(self.entries[i])
+    }
+
+    fn replaces(self, _i: usize) -> bool {
+        false
     }
 }

@@ -5,25 +5,20 @@
 #![tactic(auto)]
 
 mod carved;
-mod names;
-mod room;
 
-ghost use Rattle.std.specs.Prelude.{◌≡◌, ◌/◌};
-ghost use Rattle.entry_slots.specs.Slots.{stride};
-ghost use Rattle.entry_table.specs.Promise.{outcome};
-ghost use Rattle.carved_seed.specs.Tests.{onward, used_in, state_tested};
+ghost use Rattle.std.specs.Prelude.{◌≡◌};
+ghost use Rattle.base.specs.Outcome.{outcome};
 ghost use Rattle.carved_seed.specs.Promise.{in_numbers, SeedFromCarvedPromise, SeedEntriesPromise};
 
-use crate::carved::{info_of, key_of};
-use crate::names::test_names;
-use crate::room::test_room;
-use base::BAD_STATE;
+use crate::carved::{CarvedEntries, info_of, key_of};
+use additions::room::{has_room, names_inside};
+use base::refusal::Refusal;
 use entry_slots::slots::STRIDE;
-use entry_table::{Stored, insert_if_absent};
+use entry_table::insert_if_absent;
 use mft_carver::CarvedMftEntry;
 
-// What seeding answers, in numbers: the used slots, which are those that came in where it is refused, and 0 or the number of the
-// refusal.
+// What seeding answers in numbers, for C: the used slots, which are those that came in where it is refused, and 0 or the number of
+// the refusal.
 #[repr(C)]
 #[derive(Clone, Copy)]
 pub struct Seeded {
@@ -31,35 +26,42 @@ pub struct Seeded {
     pub refusal: u32,
 }
 
-// Stores carved entries, in turn, each where its key is new.
+// Stores carved entries, in turn, each where its key is new: after the tests over all of them, each is taken out of the slice and inserted
+// if absent. The scope names this form (docs/SCOPE.md, "Forms"), so that the tests of `entry_table::seed` are made here too.
 // Refused, with nothing written: 9 used is above the slots, 7 a name's place passes the image, also of a known entry, 6 the
-// different new keys are more than the slots that are left. Each test takes the answer of those before it and hands a refusal on.
+// different new keys are more than the slots that are left.
 pub fn seed_from_carved(
     journal: &[u8],
     image: &[u8],
     slots: &mut [u64],
     used: usize,
     entries: &[CarvedMftEntry],
-) -> Stored
+) -> Result<usize, Refusal>
     ensures { SeedFromCarvedPromise journal image slots used entries result }
 {
-    let mut stored = test_state(slots.len(), used);
-    stored = test_names(stored, journal.len(), image.len(), entries);
-    stored = test_room(stored, slots, entries);
-    let mut i = on(stored, 0, entries.len());
-    while i < entries.len() {
-        let e = entries[i];
-        stored = insert_if_absent(
+    let source = CarvedEntries { entries };
+    if slots.len() / STRIDE < used {
+        return Err(Refusal::BadState);
+    }
+    if !names_inside(source, journal.len(), image.len()) {
+        return Err(Refusal::NameOutside);
+    }
+    if !has_room(source, slots, used, slots.len() / STRIDE) {
+        return Err(Refusal::TableFull);
+    }
+    let mut now_used = used;
+    for i in 0..entries.len() {
+        let entry = entries[i];
+        now_used = insert_if_absent(
             journal,
             image,
             slots,
-            used_in(stored),
-            key_of(e),
-            info_of(e),
-        );
-        i += 1;
+            now_used,
+            key_of(entry),
+            info_of(entry),
+        )?;
     }
-    stored
+    Ok(now_used)
 }
 
 // The same, answered in numbers.
@@ -75,45 +77,18 @@ pub fn table_seed_entries(
     in_numbers(used, seed_from_carved(journal, image, slots, used, entries))
 }
 
-// An answer in numbers.
-fn in_numbers(used: usize, stored: Stored) -> Seeded
+// An answer in numbers, as C gets it. It needs the used slots that came in, so that no From of the result would do.
+fn in_numbers(used: usize, stored: Result<usize, Refusal>) -> Seeded
     ensures { result ≡ in_numbers used (outcome stored) }
 {
     match stored {
-        Stored::Used(n) => Seeded {
+        Ok(n) => Seeded {
             used: n,
             refusal: 0,
         },
-        Stored::Refused(n) => Seeded { used, refusal: n },
-    }
-}
-
-// Test 9: the used slots, where they are slots.
-fn test_state(slots_length: usize, used: usize) -> Stored
-    ensures { outcome result ≡ state_tested (slots_length / stride) used }
-{
-    if slots_length / STRIDE < used {
-        return Stored::Refused(BAD_STATE);
-    }
-    Stored::Used(used)
-}
-
-// Where a walk over so many entries goes on: at entry i, or past the last one where a test has refused.
-pub(crate) fn on(stored: Stored, i: usize, count: usize) -> usize
-    ensures { result ≡ onward (outcome stored) i count }
-{
-    match stored {
-        Stored::Used(_) => i,
-        Stored::Refused(_) => count,
-    }
-}
-
-// The used slots of an answer; 0 where it is a refusal.
-pub(crate) fn used_in(stored: Stored) -> usize
-    ensures { result ≡ used_in (outcome stored) }
-{
-    match stored {
-        Stored::Used(n) => n,
-        Stored::Refused(_) => 0,
+        Err(refusal) => Seeded {
+            used,
+            refusal: refusal.number(),
+        },
     }
 }

@@ -1,21 +1,23 @@
 -- The ways out of the call, by its tests: its outcome, and what the list then holds. Assumes nothing.
 use Prim.Native.Nat.{ℕ, ◌≤◌, ◌<◌}
+use Rattle.std.specs.Prelude.{Result, Ok, Err}
 use mathlib.Core.Path.{◌≡◌, refl, ap, sym, ◌∙◌}
 use mathlib.Core.List.{List}
 use mathlib.Core.Bool.{Bool, true, false, cond, not}
 use native.Mathlib.Omega.{arith}
-use borrow.Author.Tests.{lt-ltb, le-ltb, ltb-false, eq-eqb, ne_eqb, not-false}
+use borrow.Author.Tests.{lt-ltb, le-ltb, ltb-false, ne_eqb, not-false}
 use lib.Dec.{ltb, eqb}
-use Rattle.base.specs.Outcome.{Outcome, refused, answered, map_outcome}
+use Rattle.base.specs.Outcome.{Outcome, refused, answered, outcome, map_outcome}
 use Rattle.base.proofs.ChoiceLaws.{cond_cases}
-use Rattle.base.specs.Refusals.{above_domain, name_outside, bad_state, domain}
+use Rattle.base.proofs.RefusalLaws.{some_number}
+use Rattle.base.specs.Refusals.{above_domain, name_outside, bad_state, domain, number_of}
 use Rattle.entry_slots.specs.Names.{Lengths, all_inside}
 use Rattle.entry_slots.specs.Slots.{slots_in, names_in}
 use Rattle.entry_slots.specs.Table.{Table}
 use Rattle.entry_slots.specs.declared.EntryKey.{EntryKey}
 use Rattle.chain.specs.Promise.{Chains}
-use Rattle.chain.specs.declared.ChainAnswer.{ChainAnswer}
-use Rattle.chain.specs.declared.ChainAnswer.TheVariants.{Resolved, Refused}
+use Rattle.base.specs.Words.{number}
+use Rattle.base.specs.declared.refusal.Refusal.{Refusal}
 use Rattle.chain.specs.declared.ResolvedPath.{ResolvedPath}
 use Rattle.chain.specs.Chain.{Chain, chain_of, resolved}
 use Rattle.chain.specs.Tracing.{in_domain, tracing, path_refusal, with_places}
@@ -79,12 +81,12 @@ module _ (ls : Lengths) (t : Table) (depth : ℕ) (k : EntryKey) where
       go false false false true = refl
       go false false false false = refl
 
-  module _ {n : ℕ} (e : n ≡ path_refusal ls t) where
-    pub tests-fail : (n ≡ 0 → ⊥) → tracing ls t depth k ≡ refused n
-    tests-fail h = by-refusal ∙ rw (← e, ne_eqb n 0 h)
+  module _ {x : Result Unit Refusal} (e : number (outcome x) ≡ path_refusal ls t) where
+    pub tests-fail : {r : Refusal} → x ≡ Err r → tracing ls t depth k ≡ refused (number_of r)
+    tests-fail {r} h = let n : number_of r ≡ path_refusal ls t = rw h at e in by-refusal ∙ rw (← n, ne_eqb (number_of r) 0 (some_number r))
 
-    pub tests-pass : n ≡ 0 → tracing ls t depth k ≡ answered (chain_of t depth k)
-    tests-pass h = by-refusal ∙ rw (← e, eq-eqb n 0 h)
+    pub tests-pass : {a : Unit} → x ≡ Ok a → tracing ls t depth k ≡ answered (chain_of t depth k)
+    tests-pass h = let n : 0 ≡ path_refusal ls t = rw h at e in by-refusal ∙ rw (← n)
 
 -- what holds where a chain is answered
 pub record Traced (ls : Lengths) (t : Table) (depth : ℕ) (k : EntryKey) (p : ResolvedPath) : Type 0 where
@@ -126,12 +128,12 @@ module _ (ls : Lengths) (t : Table) (depth : ℕ) (k : EntryKey) where
 -- the list at the end of a call, by its outcome
 module _ (ls : Lengths) (t : Table) (depth : ℕ) (k : EntryKey) (l : List ℕ) where
   -- the outcome is x, and the list holds m
-  abbrev Comes : ChainAnswer → List ℕ → Type 0
+  abbrev Comes : Result ResolvedPath Refusal → List ℕ → Type 0
   Comes = Chains (tracing ls t depth k) l
 
-  pub chain-refused : {n : ℕ} → tracing ls t depth k ≡ refused n → Comes (Refused n) l
+  pub chain-refused : {r : Refusal} → tracing ls t depth k ≡ refused (number_of r) → Comes (Err r) l
   chain-refused e = record { answer = sym (ap (map_outcome resolved) e); places = rw e }
 
   pub chain-listed : tracing ls t depth k ≡ answered (chain_of t depth k) → {p : ResolvedPath} {m : List ℕ} → p ≡ resolved (chain_of t depth k)
-      → m ≡ with_places l (chain_of t depth k).places → Comes (Resolved p) m
+      → m ≡ with_places l (chain_of t depth k).places → Comes (Ok p) m
   chain-listed e g f = record { answer = ap answered g ∙ sym (ap (map_outcome resolved) e); places = rw e f }

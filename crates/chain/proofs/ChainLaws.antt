@@ -1,6 +1,6 @@
 -- The steps of a chain: each is the end, or a name under the chain of the parent. Assumes nothing.
-use Prim.Native.Nat.{ℕ, zero, suc, ◌+◌, ◌-◌, ◌≤◌, ◌<◌}
-use mathlib.Core.Path.{◌≡◌, refl, ap}
+use Prim.Native.Nat.{ℕ, zero, suc, ◌-◌, ◌≤◌, ◌<◌}
+use mathlib.Core.Path.{◌≡◌, refl}
 use mathlib.Core.Bool.{Bool, true, false, cond}
 use native.Mathlib.Omega.{arith}
 use borrow.Author.Tests.{eq-eqb, ne_eqb}
@@ -8,16 +8,13 @@ use lib.ListN.{length, length-append}
 use Rattle.entry_slots.specs.Slots.{info_at}
 use Rattle.entry_slots.specs.Table.{Table, find, lookup_found}
 use Rattle.entry_slots.specs.declared.EntryKey.{EntryKey}
-use Rattle.entry_slots.specs.declared.EntryInfo.{EntryInfo}
-use Rattle.entry_slots.specs.declared.slots.Found.{Found}
-use Rattle.entry_slots.specs.declared.slots.Found.TheVariants.{At, Nothing}
+use Rattle.std.specs.Prelude.{Option, Some, None}
 use Rattle.entry_slots.proofs.FindLaws.{find_at}
 use Rattle.chain.specs.declared.ChainEnd.{ChainEnd}
 use Rattle.chain.specs.declared.ChainEnd.TheVariants.{Root, Unknown, Unresolved}
-use Rattle.chain.specs.declared.ResolvedPath.{ResolvedPath}
 use Rattle.chain.specs.declared.steps.Way.{Way}
 use Rattle.chain.specs.declared.steps.Way.TheVariants.{End, Slot}
-use Rattle.chain.specs.Chain.{Chain, bare, under, is_root, linked, chain, resolved, way_found, way_of}
+use Rattle.chain.specs.Chain.{Chain, bare, under, is_root, linked, chain, way_found, way_of}
 
 -- the step by its tests
 module _ (t : Table) (n : ℕ) (k : EntryKey) where
@@ -30,12 +27,12 @@ module _ (t : Table) (n : ℕ) (k : EntryKey) where
     unfolding way_of
     step-root y = simp (ne_eqb n 0 more, ← e, y)
 
-    pub step-found : {f : Found} → b ≡ false → f ≡ find t k → way_found k f ≡ way_of t n k
+    pub step-found : {f : Option ℕ} → b ≡ false → f ≡ find t k → way_found k f ≡ way_of t n k
     unfolding way_of
     step-found y f = simp (ne_eqb n 0 more, ← e, y, ← f)
 
 -- a slot that a key is found in is a used one
-found-used : (t : Table) (k : EntryKey) (i : ℕ) → find t k ≡ At i → i < t.used
+found-used : (t : Table) (k : EntryKey) (i : ℕ) → find t k ≡ Some i → i < t.used
 found-used t k i e = omega (arith, (find_at t.words k 0 t.used i e).below)
 
 -- the chain goes on from slot i: its name hangs under the parent's chain, which has a level less
@@ -58,10 +55,10 @@ unfolding chain way_of
 begins t zero k = refl
 begins t (suc n) k = rw (step-more t n k) (go (is_root k) refl (find t k) refl)
   where
-    go : (b : Bool) → is_root k ≡ b → (f : Found) → find t k ≡ f → Begins t (suc n) k (cond b (End Root) (way_found k f))
+    go : (b : Bool) → is_root k ≡ b → (f : Option ℕ) → find t k ≡ f → Begins t (suc n) k (cond b (End Root) (way_found k f))
     go true x f y = rw (chain, x)
-    go false x Nothing y = rw (chain, x, y)
-    go false x (At i) y = let m : suc n - 1 ≡ n = omega arith in record { slot = found-used t k i y; level = omega arith; rest = rw (m, chain, x, y) }
+    go false x None y = rw (chain, x, y)
+    go false x (Some i) y = let m : suc n - 1 ≡ n = omega arith in record { slot = found-used t k i y; level = omega arith; rest = rw (m, chain, x, y) }
 
 pub chain-end : (t : Table) (n : ℕ) (k : EntryKey) {e : ChainEnd} → End e ≡ way_of t n k → chain t n k ≡ bare e
 chain-end t n k h = rw (← h) at (begins t n k)
@@ -75,10 +72,10 @@ pub chain-cases : (P : Chain → Type 0) (t : Table) (n : ℕ) (k : EntryKey) �
 unfolding chain
 chain-cases P t n k h g = go (is_root k) (find t k) refl
   where
-    go : (b : Bool) (f : Found) → find t k ≡ f → P (cond b (bare Root) (linked k (chain t n) (lookup_found t.words f)))
+    go : (b : Bool) (f : Option ℕ) → find t k ≡ f → P (cond b (bare Root) (linked k (chain t n) (lookup_found t.words f)))
     go true f y = h Root
-    go false Nothing y = h (Unknown k)
-    go false (At i) y = g i (found-used t k i y)
+    go false None y = h (Unknown k)
+    go false (Some i) y = g i (found-used t k i y)
 
 -- there are at most as many names as levels
 pub names-most : (t : Table) (n : ℕ) (k : EntryKey) → length (chain t n k).places ≤ n
@@ -87,15 +84,3 @@ names-most t zero k = omega arith
 names-most t (suc n) k =
     chain-cases (λ (c : Chain). length c.places ≤ suc n) t n k (λ e. omega arith)
     (λ i h. simp length-append (omega (arith, names-most t n (info_at t.words i).parent)))
-
--- what a chain resolves to: at its end, and with a name more
-pub resolved-end : (t : Table) (n : ℕ) (k : EntryKey) {e : ChainEnd} → End e ≡ way_of t n k → ◌≡◌ {A = ResolvedPath} (record { names = 0; end = e }) (resolved (chain t n k))
-resolved-end t n k h = rw (chain-end t n k h)
-
-module _ (t : Table) (n : ℕ) (k : EntryKey) {i : ℕ} (h : Slot i ≡ way_of t n k) {info : EntryInfo} {above : ResolvedPath}
-    (e : info ≡ info_at t.words i) (f : above ≡ resolved (chain t (n - 1) info.parent)) where
-  pub names-below : above.names ≤ n - 1
-  names-below = omega (arith, ap (λ (r : ResolvedPath). r.names) f, names-most t (n - 1) info.parent)
-
-  pub resolved-up : ◌≡◌ {A = ResolvedPath} (record { names = above.names + 1; end = above.end }) (resolved (chain t n k))
-  resolved-up = rw ((chain-up t n k h).rest, f, e, length-append)

@@ -21,8 +21,7 @@ use Rattle.chain.specs.declared.ChainEnd.{ChainEnd}
 use Rattle.chain.specs.declared.way.Climbed.{Climbed}
 use Rattle.chain.specs.declared.steps.Way.TheVariants.{End, Slot}
 use Rattle.chain.specs.declared.ChainEnd.TheVariants.{Root, Unknown, Unresolved}
-use Rattle.entry_slots.specs.declared.slots.Found.{Found}
-use Rattle.entry_slots.specs.declared.slots.Found.TheVariants.{At, Nothing}
+use Rattle.std.specs.Prelude.{Option, Some, None}
 use Rattle.chain.specs.Settings.{depth, levels}
 use Rattle.chain.specs.Chain.{Chain, chain, chain_of, resolved, is_root, way_found, way_of}
 use Rattle.chain.specs.Way.{way_places, step_bound, names_bound, top_key, end_under, end_by, resolved_by, Slots, Below}
@@ -101,12 +100,12 @@ end-here t way n k {e} near reached h = rw top (go (eqb n 0) refl (is_root k) re
         go' true q = refl
         go' false q = reached (omega (arith, eqb-false (levels - n) 0 q))
 
-    go : (b : Bool) → eqb n 0 ≡ b → (c : Bool) → is_root k ≡ c → (f : Found) → End e ≡ cond b (End (Unresolved k)) (cond c (End Root) (way_found k f))
+    go : (b : Bool) → eqb n 0 ≡ b → (c : Bool) → is_root k ≡ c → (f : Option ℕ) → End e ≡ cond b (End (Unresolved k)) (cond c (End Root) (way_found k f))
         → cond (eqb (levels - n) levels) (Unresolved k) (cond (is_root k) Root (Unknown k)) ≡ e
     go true q c x f g = rw (eq-eqb (levels - n) levels (omega (arith, eqb-true n 0 q))) (cc)
     go false q true x f g = rw (ne_eqb (levels - n) levels (λ z. eqb-false n 0 q (omega arith)), x) (cc)
-    go false q false x Nothing g = rw (ne_eqb (levels - n) levels (λ z. eqb-false n 0 q (omega arith)), x) (cc)
-    go false q false x (At i) g = let z : ◌≡◌ {A = ℕ} 0 1 = cc in absurd (omega arith)
+    go false q false x None g = rw (ne_eqb (levels - n) levels (λ z. eqb-false n 0 q (omega arith)), x) (cc)
+    go false q false x (Some i) g = let z : ◌≡◌ {A = ℕ} 0 1 = cc in absurd (omega arith)
 
 -- the way ends at once, or goes on from a slot
 module _ (t : Table) (n : ℕ) (k : EntryKey) (way : List ℕ) (bound : ℕ) (asks : RiseAsks t.words way n k bound) where

@@ -1,11 +1,9 @@
 -- The chain of a key: the names from the top down, and what they hang under. Of journal and image it knows nothing.
-use Rattle.std.specs.Prelude.{ℕ, zero, suc, ◌+◌, List, [], ◌∷◌, ◌++◌, Bool, cond, length, eqb}
+use Rattle.std.specs.Prelude.{ℕ, zero, suc, ◌+◌, List, [], ◌∷◌, ◌++◌, Bool, cond, length, eqb, Option, Some, None}
 use Rattle.base.specs.Lists.{flatten}
 use Rattle.entry_slots.specs.Table.{Table, Lookup, unknown, entered, lookup, find}
 use Rattle.entry_slots.specs.declared.EntryKey.{EntryKey}
 use Rattle.entry_slots.specs.declared.NamePlace.{NamePlace}
-use Rattle.entry_slots.specs.declared.slots.Found.{Found}
-use Rattle.entry_slots.specs.declared.slots.Found.TheVariants.{At, Nothing}
 use Rattle.chain.specs.declared.ChainEnd.{ChainEnd}
 use Rattle.chain.specs.declared.ChainEnd.TheVariants.{Root, Unknown, Unresolved}
 use Rattle.chain.specs.declared.ResolvedPath.{ResolvedPath}
@@ -54,9 +52,9 @@ abbrev pub chain_words : List NamePlace → List ℕ
 chain_words ps = flatten source_words ps
 
 -- the first step of that chain: it ends here, or goes on from the slot that the key stands in
-abbrev pub way_found : EntryKey → Found → Way
-way_found k (At i) = Slot i
-way_found k Nothing = End (Unknown k)
+abbrev pub way_found : EntryKey → Option ℕ → Way
+way_found k (Some i) = Slot i
+way_found k None = End (Unknown k)
 
 unfoldable pub way_of : Table → ℕ → EntryKey → Way
 way_of t n k = cond (eqb n 0) (End (Unresolved k)) (cond (is_root k) (End Root) (way_found k (find t k)))

@@ -3,3 +3,4 @@ pub mod Chain
 pub mod Way
 pub mod Tracing
 pub mod Promise
+pub mod Words

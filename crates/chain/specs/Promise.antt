@@ -1,7 +1,8 @@
 -- What the call promises. The record says it of lists: what the lent slices hold before, and, with ', after. The promise itself takes the call's parameters.
-use Rattle.std.specs.Prelude.{ℕ, ◌+◌, ◌-◌, ◌*◌, ◌^◌, ◌≤◌, ◌<◌, ◌≡◌, List, ◌++◌, length, get_or}
+use Rattle.std.specs.Prelude.{ℕ, ◌+◌, ◌-◌, ◌*◌, ◌^◌, ◌≤◌, ◌<◌, ◌≡◌, List, ◌++◌, length, get_or, Result}
 use Rattle.base.specs.Lent.{Lent, MutLent, before, before_mut, after}
-use Rattle.base.specs.Outcome.{Outcome, map_outcome}
+use Rattle.base.specs.Outcome.{Outcome, outcome, map_outcome}
+use Rattle.base.specs.declared.refusal.Refusal.{Refusal}
 use Rattle.entry_slots.specs.Names.{lengths_of}
 use Rattle.entry_slots.specs.Slots.{info_at}
 use Rattle.entry_slots.specs.Table.{Table, table}
@@ -9,16 +10,16 @@ use Rattle.entry_slots.specs.declared.EntryKey.{EntryKey}
 use Rattle.chain.specs.Settings.{depth, levels}
 use Rattle.chain.specs.Chain.{Chain, chain, chain_of, resolved}
 use Rattle.chain.specs.Way.{way_places, names_bound, end_by, chain_by, Below}
-use Rattle.chain.specs.Tracing.{tracing, chain_after, outcome}
-use Rattle.chain.specs.declared.ChainAnswer.{ChainAnswer}
+use Rattle.chain.specs.Tracing.{tracing, chain_after}
+use Rattle.chain.specs.declared.ResolvedPath.{ResolvedPath}
 use Rattle.chain.specs.declared.way.Climbed.{Climbed}
 
 -- a chain that comes to o: its answer, and the list of its places
-pub record Chains (o : Outcome Chain) (list : List ℕ) (r : ChainAnswer) (list' : List ℕ) : Type 0 where
+pub record Chains (o : Outcome Chain) (list : List ℕ) (r : Result ResolvedPath Refusal) (list' : List ℕ) : Type 0 where
   pub answer : outcome r ≡ map_outcome resolved o
   pub places : list' ≡ chain_after o list
 
-abbrev pub ChainPromise : Lent → Lent → Lent → ℕ → EntryKey → MutLent → ChainAnswer → Type 0
+abbrev pub ChainPromise : Lent → Lent → Lent → ℕ → EntryKey → MutLent → Result ResolvedPath Refusal → Type 0
 ChainPromise journal image slots used key list r =
     Chains (tracing (lengths_of (before journal) (before image)) (table (before slots) used) depth key) (before_mut list) r (after list)
 

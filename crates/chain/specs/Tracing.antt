@@ -8,9 +8,6 @@ use Rattle.entry_slots.specs.Slots.{slots_in, names_in}
 use Rattle.entry_slots.specs.Table.{Table}
 use Rattle.entry_slots.specs.declared.EntryKey.{EntryKey}
 use Rattle.entry_slots.specs.declared.NamePlace.{NamePlace}
-use Rattle.chain.specs.declared.ResolvedPath.{ResolvedPath}
-use Rattle.chain.specs.declared.ChainAnswer.{ChainAnswer}
-use Rattle.chain.specs.declared.ChainAnswer.TheVariants.{Resolved, Refused}
 use Rattle.chain.specs.Chain.{Chain, chain_of, chain_words}
 
 -- 1: journal or image is above the domain; else what comes after
@@ -41,8 +38,3 @@ with_places l ps = cond (leb (length (chain_words ps)) (length l)) (overwrite l 
 abbrev pub chain_after : Outcome Chain → List ℕ → List ℕ
 chain_after (refused n) l = l
 chain_after (answered c) l = with_places l c.places
-
--- what the call's answer says
-abbrev pub outcome : ChainAnswer → Outcome ResolvedPath
-outcome (Resolved p) = answered p
-outcome (Refused n) = refused n

@@ -11,11 +11,13 @@
 pub mod steps;
 pub mod tracing;
 pub mod way;
+pub mod words;
 
 ghost use Rattle.chain.specs.Promise.{ChainPromise};
 
-use crate::tracing::refusal;
+use crate::tracing::check;
 use crate::way::list_chain;
+use base::refusal::Refusal;
 use entry_slots::EntryKey;
 
 // How many parents up from the key that is asked for a path is followed.
@@ -36,13 +38,6 @@ pub struct ResolvedPath {
     pub end: ChainEnd,
 }
 
-// What a path without text answers.
-#[derive(Clone, Copy)]
-pub enum ChainAnswer {
-    Resolved(ResolvedPath),
-    Refused(u32),
-}
-
 // The path of a key without its text.
 // Refused, with nothing written: 1 journal or image is above the domain, 9 used is above the slots, 7 the name's place of a
 // used slot is outside its slice.
@@ -53,12 +48,9 @@ pub fn path_chain(
     used: usize,
     key: EntryKey,
     list: &mut [u64],
-) -> ChainAnswer
+) -> Result<ResolvedPath, Refusal>
     ensures { ChainPromise journal image slots used key list result }
 {
-    let n = refusal(journal.len(), image.len(), slots, used);
-    if n != 0 {
-        return ChainAnswer::Refused(n);
-    }
-    ChainAnswer::Resolved(list_chain(slots, used, key, list))
+    check(journal.len(), image.len(), slots, used)?;
+    Ok(list_chain(slots, used, key, list))
 }

@@ -8,12 +8,11 @@ ghost use Rattle.chain.specs.Chain.{is_root, way_of};
 use crate::ChainEnd;
 use entry_slots::EntryKey;
 use entry_slots::links::find;
-use entry_slots::slots::Found;
 
 // The entry of the root folder, of any sequence.
 const ROOT_ENTRY: u64 = 5;
 
-// The way up from a key: it ends here, or goes on from the slot that the key stands in.
+// The way up from a key: it ends here, or goes on from the slot that the key stands in. Neither is an error.
 #[derive(Clone, Copy)]
 pub enum Way {
     End(ChainEnd),
@@ -48,7 +47,7 @@ pub fn step(
         return Way::End(ChainEnd::Root);
     }
     match find(slots, used, heads, nexts, key) {
-        Found::At(i) => Way::Slot(i),
-        Found::Nothing => Way::End(ChainEnd::Unknown(key)),
+        Some(i) => Way::Slot(i),
+        None => Way::End(ChainEnd::Unknown(key)),
     }
 }

@@ -2,27 +2,35 @@
 ghost use Rattle.std.specs.Prelude.{◌≡◌};
 ghost use Rattle.entry_slots.specs.Names.{lengths};
 ghost use Rattle.entry_slots.specs.Table.{table};
+ghost use Rattle.base.specs.Outcome.{outcome};
+ghost use Rattle.base.specs.Words.{number};
 ghost use Rattle.chain.specs.Tracing.{path_refusal};
 
-use base::{ABOVE_DOMAIN, BAD_STATE, DOMAIN, NAME_OUTSIDE};
+use base::DOMAIN;
+use base::refusal::Refusal;
 use entry_slots::names::all_inside;
 use entry_slots::slots::STRIDE;
 
-// The number that a path is refused with, whatever its key, with journal and image by their lengths; 0 where there is none.
-pub fn refusal(journal_length: usize, image_length: usize, slots: &[u64], used: usize) -> u32
-    ensures { result ≡ path_refusal (lengths journal_length image_length) (table slots.now used) }
+// What a path is refused with, whatever its key, with journal and image by their lengths.
+pub fn check(
+    journal_length: usize,
+    image_length: usize,
+    slots: &[u64],
+    used: usize,
+) -> Result<(), Refusal>
+    ensures { number (outcome result) ≡ path_refusal (lengths journal_length image_length) (table slots.now used) }
 {
     if DOMAIN < journal_length {
-        return ABOVE_DOMAIN;
+        return Err(Refusal::AboveDomain);
     }
     if DOMAIN < image_length {
-        return ABOVE_DOMAIN;
+        return Err(Refusal::AboveDomain);
     }
     if slots.len() / STRIDE < used {
-        return BAD_STATE;
+        return Err(Refusal::BadState);
     }
     if !all_inside(slots, used, journal_length, image_length) {
-        return NAME_OUTSIDE;
+        return Err(Refusal::NameOutside);
     }
-    0
+    Ok(())
 }

@@ -11,7 +11,7 @@ ghost use Rattle.chain.specs.Promise.{RiseAsks, RisePromise, ClimbPromise};
 
 use crate::steps::{Way, is_root, step};
 use crate::{ChainEnd, DEPTH, ResolvedPath};
-use base::put_words;
+use base::put;
 use entry_slots::slots::info_at;
 use entry_slots::{EntryKey, NamePlace};
 
@@ -141,19 +141,17 @@ pub fn list_places(slots: &[u64], way: &[usize], names: usize, list: &mut [u64])
     if list.len() / PLACE_WORDS < names {
         return;
     }
-    let mut left = names;
     let mut i: usize = 0;
-    while 0 < left {
-        left -= 1;
+    for left in (0..names).rev() {
         let info = info_at(slots, way[left]);
         let name = info.name;
         let words = [name.source, name.offset, name.length];
-        put_words(list, i, &words);
+        put(list, i, &words);
         i += PLACE_WORDS;
     }
 }
 
-// The names and the end of a way.
+// The names and the end of a way: two of its three fields, for which a From would say no more.
 pub fn resolved(up: Climbed) -> ResolvedPath
     ensures { result ≡ resolved_by up }
 {
@@ -171,8 +169,7 @@ pub fn list_chain(slots: &[u64], used: usize, key: EntryKey, list: &mut [u64]) -
     ensures list_after { list.new ≡ with_places list.old (chain_of (table slots.now used) depth key).places }
 {
     let mut way: [usize; WAY_WORDS] = [0; WAY_WORDS];
-    let none = &slots[..0];
-    let up = climb(slots, used, none, none, key, &mut way);
+    let up = climb(slots, used, &[], &[], key, &mut way);
     list_places(slots, &way, up.names, list);
     resolved(up)
 }

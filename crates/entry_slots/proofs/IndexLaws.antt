@@ -2,12 +2,12 @@
 use Prim.Native.Nat.{ℕ, zero, suc, ◌+◌, ◌-◌, ◌*◌, ◌%◌, ◌≤◌, ◌<◌}
 use mathlib.Core.Path.{◌≡◌, refl, ap, sym, ◌∙◌}
 use mathlib.Core.List.{List}
-use mathlib.Core.Bool.{Bool, true, false}
+use mathlib.Core.Bool.{false}
 use native.Mathlib.Omega.{arith}
 use native.Mathlib.Nat.{mod-lt, add-zero, zero-add}
-use borrow.Author.Tests.{lt-ltb, le-ltb, eq-eqb, ne_eqb, eqb-true, eqb-false}
-use lib.ListN.{length, get_or, set, replicate, length-set, length-replicate, get_or-replicate}
-use lib.Seq.{ext_get_or, get_or-set_same, get_or-set_other}
+use borrow.Author.Tests.{lt-ltb, le-ltb, eq-eqb, ne_eqb}
+use lib.ListN.{length, get_or, set, length-set}
+use lib.Seq.{ext_get_or}
 use lib.Dec.{leb, eqb}
 use Rattle.base.proofs.ChoiceLaws.{cond_cases}
 use Rattle.entry_slots.specs.Slots.{stride}
@@ -100,32 +100,6 @@ linked-behind heads nexts h last link z = record { heads_after = rw (ne_eqb last
 pub length-linked : (nexts : List ℕ) (last link : ℕ) → length (nexts_linked nexts last link) ≡ length nexts
 unfolding nexts_linked
 length-linked nexts last link = cond_cases (λ (w : List ℕ). length w ≡ length nexts) (eqb last 0) (λ _. refl) (λ _. length-set nexts (last - 1) link)
-
--- what the loop that sets words to 0 keeps: the first i of them are
-pub record Cleared (words₀ words : List ℕ) (i : ℕ) : Type 0 where
-  pub near : i ≤ length words
-  pub long : length words ≡ length words₀
-  pub zeros : (j : ℕ) → j < i → get_or words j 0 ≡ 0
-
-pub cleared-start : (w : List ℕ) → Cleared w w 0
-cleared-start w = record { near = omega arith; long = refl; zeros = λ j h. absurd (omega arith) }
-
-pub cleared_more : {w₀ w : List ℕ} {i : ℕ} → Cleared w₀ w i → i < length w → Cleared w₀ (set w i 0) (i + 1)
-cleared_more {w₀} {w} {i} x h =
-    record {
-      near = omega (arith, length-set w i 0);
-      long = length-set w i 0 ∙ x.long;
-      zeros = λ j g. go j g (eqb j i) refl;
-    }
-  where
-    go : (j : ℕ) → j < i + 1 → (b : Bool) → eqb j i ≡ b → get_or (set w i 0) j 0 ≡ 0
-    go j g true e = let z : j ≡ i = eqb-true j i e in rw z (get_or-set_same w i 0 0 h)
-    go j g false e = let z = eqb-false j i e in get_or-set_other w i j 0 0 z ∙ x.zeros j (omega arith)
-
-pub cleared-all : {w₀ w : List ℕ} {i : ℕ} → Cleared w₀ w i → length w ≤ i → w ≡ replicate (length w₀) 0
-cleared-all {w₀} {w} {i} x h =
-    ext_get_or 0 w (replicate (length w₀) 0) (x.long ∙ sym (length-replicate (length w₀) 0))
-    (λ j g. x.zeros j (omega arith) ∙ sym (get_or-replicate (length w₀) j 0 0 (omega (arith, x.long))))
 
 -- no words are an index of any table: what the calls without one lend
 pub none-indexed : (s heads nexts : List ℕ) (used : ℕ) → used * stride ≤ length s → length heads ≤ 0

@@ -10,8 +10,7 @@ use lib.Dec.{eqb}
 use Rattle.entry_slots.specs.Slots.{same_key, key_at, find_from}
 use Rattle.entry_slots.specs.Table.{Table, find, slot_or, slot_for}
 use Rattle.entry_slots.specs.declared.EntryKey.{EntryKey}
-use Rattle.entry_slots.specs.declared.slots.Found.{Found}
-use Rattle.entry_slots.specs.declared.slots.Found.TheVariants.{At, Nothing}
+use Rattle.std.specs.Prelude.{Option, Some, None}
 use Rattle.entry_slots.proofs.FindLaws.{same-equal}
 use Rattle.entry_slots.specs.Index.{hash, first_link, head_of}
 use Rattle.entry_slots.specs.Probing.{following, LinkOf, LastOf, Probed, slot_by}
@@ -24,8 +23,8 @@ abbrev pub hash_at : ℕ → List ℕ → ℕ → ℕ
 hash_at m s i = hash m (key_at s i)
 
 -- the slot of a key among those from a link on
-unfoldable pub from_link : List ℕ → ℕ → EntryKey → ℕ → Found
-from_link s used k zero = Nothing
+unfoldable pub from_link : List ℕ → ℕ → EntryKey → ℕ → Option ℕ
+from_link s used k zero = None
 from_link s used k (suc i) = find_from s k i (used - i)
 
 -- how many slots there are from a link on, which is less at every link
@@ -45,7 +44,7 @@ find-pass : (s : List ℕ) (k : EntryKey) (i n : ℕ) → same_key (key_at s i) 
 unfolding find_from
 find-pass s k i n e = rw (find_from, e)
 
-find-here : (s : List ℕ) (k : EntryKey) (i n : ℕ) → same_key (key_at s i) k ≡ true → find_from s k i (suc n) ≡ At i
+find-here : (s : List ℕ) (k : EntryKey) (i n : ℕ) → same_key (key_at s i) k ≡ true → find_from s k i (suc n) ≡ Some i
 unfolding find_from
 find-here s k i n e = rw (find_from, e)
 
@@ -82,7 +81,7 @@ first-from m s used h (suc n) i e = go (eqb (hash_at m s i) h) refl (first-from 
 
 -- one link of the walk
 module _ (m : ℕ) (s : List ℕ) (used : ℕ) (k : EntryKey) (link : ℕ) (some : 0 < link) (within : link ≤ used) where
-  turn-hit : same_key (key_at s (link - 1)) k ≡ true → from_link s used k link ≡ At (link - 1)
+  turn-hit : same_key (key_at s (link - 1)) k ≡ true → from_link s used k link ≡ Some (link - 1)
   unfolding from_link
   turn-hit e =
       let a : link ≡ suc (link - 1) = omega arith in
@@ -172,11 +171,11 @@ walking-last {m} {t} {k} {link} {last} w h =
 
 -- what a walk said
 module _ (m : ℕ) (t : Table) (k : EntryKey) {p : Probe} (x : Probed m t k p) where
-  pub probed-hit : {i : ℕ} → p ≡ Hit i → At i ≡ find t k
+  pub probed-hit : {i : ℕ} → p ≡ Hit i → Some i ≡ find t k
   unfolding Probed
   probed-hit e = sym (subst (Probed m t k) e x)
 
-  pub probed_none : {l : ℕ} → p ≡ Last l → Nothing ≡ find t k
+  pub probed_none : {l : ℕ} → p ≡ Last l → None ≡ find t k
   unfolding Probed
   probed_none e = sym (subst (Probed m t k) e x).0
 
@@ -191,11 +190,11 @@ probed-slot m t k (Hit i) x = ap (slot_or t.used) (sym x)
 probed-slot m t k (Last l) x = ap (slot_or t.used) (sym x.0)
 
 -- and a lookup with no heads
-pub found-hit : (m : ℕ) (t : Table) (k : EntryKey) {f : Found} {i : ℕ} → f ≡ find t k → f ≡ At i → Probed m t k (Hit i)
+pub found-hit : (m : ℕ) (t : Table) (k : EntryKey) {f : Option ℕ} {i : ℕ} → f ≡ find t k → f ≡ Some i → Probed m t k (Hit i)
 unfolding Probed
 found-hit m t k e g = sym e ∙ g
 
-pub found_none : (m : ℕ) (t : Table) (k : EntryKey) {f : Found} → m ≤ 0 → f ≡ find t k → f ≡ Nothing → Probed m t k (Last 0)
+pub found_none : (m : ℕ) (t : Table) (k : EntryKey) {f : Option ℕ} → m ≤ 0 → f ≡ find t k → f ≡ None → Probed m t k (Last 0)
 unfolding Probed
 found_none m t k z e g = (sym e ∙ g, λ some. absurd (omega arith))
 

@@ -12,13 +12,12 @@ use lib.Dec.{eqb}
 use Rattle.entry_slots.specs.Slots.{stride, slots_in, same_key, key_at, put_at}
 use Rattle.entry_slots.specs.Table.{Table, table, find, entered, lookup_found, lookup, is_at, known, Addition, add_found, add}
 use Rattle.entry_slots.specs.declared.EntryKey.{EntryKey}
-use Rattle.entry_slots.specs.declared.slots.Found.{Found}
-use Rattle.entry_slots.specs.declared.slots.Found.TheVariants.{At, Nothing}
+use Rattle.std.specs.Prelude.{Option, Some, None}
 use Rattle.entry_slots.proofs.FindLaws.{same-equal, same_self, find_at, find-keys, or_at, find-more}
 use Rattle.entry_slots.proofs.PutLaws.{length-put, put-key, put-info, put-key-other, put-info-other}
 
 -- a slot that is found is one of the used ones
-pub find-used : (t : Table) (k : EntryKey) (i : ℕ) → find t k ≡ At i → i < t.used
+pub find-used : (t : Table) (k : EntryKey) (i : ℕ) → find t k ≡ Some i → i < t.used
 find-used t k i e = rw zero-add at (find_at t.words k 0 t.used i e).below
 
 -- the same key is known alike
@@ -26,7 +25,7 @@ pub known_same : (t : Table) (j k : EntryKey) → same_key j k ≡ true → know
 known_same t j k e = ap (known t) (same-equal j k e)
 
 -- an addition that replaces leaves every slot's key, so that each key stands where it stood
-module _ (t : Table) (a : Addition) (i : ℕ) (at : find t a.key ≡ At i) (fits : t.used ≤ slots_in t.words) where
+module _ (t : Table) (a : Addition) (i : ℕ) (at : find t a.key ≡ Some i) (fits : t.used ≤ slots_in t.words) where
   abbrev replaced : List ℕ
   replaced = put_at t.words i a.key a.info
 
@@ -54,15 +53,15 @@ module _ (t : Table) (a : Addition) (i : ℕ) (at : find t a.key ≡ At i) (fits
   pub lookup-replaced-other : (k : EntryKey) → same_key a.key k ≡ false → lookup (table replaced t.used) k ≡ lookup t k
   lookup-replaced-other k apart = rw (find-replaced k) (go (find t k) refl)
     where
-      go : (f : Found) → find t k ≡ f → lookup_found replaced f ≡ lookup_found t.words f
-      go (At m) e = ap entered (put-info-other t.words i a.key a.info m (λ z. true≢false (sym (has m e z) ∙ apart)))
+      go : (f : Option ℕ) → find t k ≡ f → lookup_found replaced f ≡ lookup_found t.words f
+      go (Some m) e = ap entered (put-info-other t.words i a.key a.info m (λ z. true≢false (sym (has m e z) ∙ apart)))
         where
-          has : (m : ℕ) → find t k ≡ At m → m ≡ i → same_key a.key k ≡ true
+          has : (m : ℕ) → find t k ≡ Some m → m ≡ i → same_key a.key k ≡ true
           has m e z =
               ap (λ (j : EntryKey). same_key j k) (sym (same-equal (key_at t.words i) a.key (find_at t.words a.key 0 t.used i at).has))
               ∙ ap (λ (q : ℕ). same_key (key_at t.words q) k) (sym z)
               ∙ (find_at t.words k 0 t.used m e).has
-      go Nothing e = refl
+      go None e = refl
 
   pub lookup-replaced : lookup (table replaced t.used) a.key ≡ entered a.info
   lookup-replaced = rw (find-replaced a.key, at) (ap entered (put-info t.words i a.key a.info slot-room))
@@ -75,29 +74,29 @@ module _ (t : Table) (a : Addition) (room : t.used < slots_in t.words) where
   free-room : t.used * stride + stride ≤ length t.words
   free-room = omega arith
 
-  pub find-grown : (k : EntryKey) → find (table grown (t.used + 1)) k ≡ or_at (find t k) (cond (same_key a.key k) (At t.used) Nothing)
+  pub find-grown : (k : EntryKey) → find (table grown (t.used + 1)) k ≡ or_at (find t k) (cond (same_key a.key k) (Some t.used) None)
   find-grown k =
       rw add-one
       (find-more grown k 0 t.used
       ∙ rw (zero-add t.used, put-key t.words t.used a.key a.info free-room)
-      (ap (λ (f : Found). or_at f (cond (same_key a.key k) (At t.used) Nothing))
+      (ap (λ (f : Option ℕ). or_at f (cond (same_key a.key k) (Some t.used) None))
       (find-keys t.words grown k 0 t.used (λ m h. put-key-other t.words t.used a.key a.info m (omega arith)))))
 
   pub lookup-grown : known t a.key ≡ false → lookup (table grown (t.used + 1)) a.key ≡ entered a.info
   lookup-grown new = rw (find-grown a.key) (go (find t a.key) new)
     where
-      go : (f : Found) → is_at f ≡ false → lookup_found grown (or_at f (cond (same_key a.key a.key) (At t.used) Nothing)) ≡ entered a.info
-      go (At m) e = absurd (true≢false e)
-      go Nothing e = rw (same_self a.key) (ap entered (put-info t.words t.used a.key a.info free-room))
+      go : (f : Option ℕ) → is_at f ≡ false → lookup_found grown (or_at f (cond (same_key a.key a.key) (Some t.used) None)) ≡ entered a.info
+      go (Some m) e = absurd (true≢false e)
+      go None e = rw (same_self a.key) (ap entered (put-info t.words t.used a.key a.info free-room))
 
   pub lookup-grown-other : (k : EntryKey) → same_key a.key k ≡ false → lookup (table grown (t.used + 1)) k ≡ lookup t k
   lookup-grown-other k apart = rw (find-grown k) (go (find t k) refl)
     where
-      go : (f : Found) → find t k ≡ f → lookup_found grown (or_at f (cond (same_key a.key k) (At t.used) Nothing)) ≡ lookup_found t.words f
-      go (At m) e =
+      go : (f : Option ℕ) → find t k ≡ f → lookup_found grown (or_at f (cond (same_key a.key k) (Some t.used) None)) ≡ lookup_found t.words f
+      go (Some m) e =
           let below : m < t.used = find-used t k m e in
           ap entered (put-info-other t.words t.used a.key a.info m (omega arith))
-      go Nothing e = rw apart
+      go None e = rw apart
 
 -- an addition for which there is room
 module _ (t : Table) (a : Addition) (room : t.used + cond (known t a.key) 0 1 ≤ slots_in t.words) where
@@ -106,17 +105,17 @@ module _ (t : Table) (a : Addition) (room : t.used + cond (known t a.key) 0 1 �
 
   -- by where the key stands
   pub by-find : (P : Table → Type 0)
-      → ((i : ℕ) → find t a.key ≡ At i → a.replace ≡ true → P (table (put_at t.words i a.key a.info) t.used))
-      → ((i : ℕ) → find t a.key ≡ At i → a.replace ≡ false → P t)
-      → (find t a.key ≡ Nothing → t.used < slots_in t.words → P (table (put_at t.words t.used a.key a.info) (t.used + 1)))
+      → ((i : ℕ) → find t a.key ≡ Some i → a.replace ≡ true → P (table (put_at t.words i a.key a.info) t.used))
+      → ((i : ℕ) → find t a.key ≡ Some i → a.replace ≡ false → P t)
+      → (find t a.key ≡ None → t.used < slots_in t.words → P (table (put_at t.words t.used a.key a.info) (t.used + 1)))
       → P (add t a)
   unfolding add_found
   by-find P over kept new = go (find t a.key) refl a.replace refl
     where
-      go : (f : Found) → find t a.key ≡ f → (r : Bool) → a.replace ≡ r → P (add_found t a f)
-      go (At i) e true r = rw r (over i e r)
-      go (At i) e false r = rw r (kept i e r)
-      go Nothing e r q = let h : t.used + 1 ≤ slots_in t.words = rw e at room in new e (omega arith)
+      go : (f : Option ℕ) → find t a.key ≡ f → (r : Bool) → a.replace ≡ r → P (add_found t a f)
+      go (Some i) e true r = rw r (over i e r)
+      go (Some i) e false r = rw r (kept i e r)
+      go None e r q = let h : t.used + 1 ≤ slots_in t.words = rw e at room in new e (omega arith)
 
   pub used-added : (add t a).used ≡ t.used + cond (known t a.key) 0 1
   used-added =
@@ -147,10 +146,10 @@ module _ (t : Table) (a : Addition) (room : t.used + cond (known t a.key) 0 1 �
           go true h = sym (known_same t a.key k h) ∙ e ∙ sym (or-true (known t k))
           go false h = sym (or-false (known t k))
 
-      either : (f : Found) (b : Bool) → is_at (or_at f (cond b (At t.used) Nothing)) ≡ (is_at f || b)
-      either (At i) b = refl
-      either Nothing true = refl
-      either Nothing false = refl
+      either : (f : Option ℕ) (b : Bool) → is_at (or_at f (cond b (Some t.used) None)) ≡ (is_at f || b)
+      either (Some i) b = refl
+      either None true = refl
+      either None false = refl
 
   -- lookups of other keys stay as they were
   pub lookup-other : (k : EntryKey) → same_key a.key k ≡ false → lookup (add t a) k ≡ lookup t k

@@ -1,9 +1,8 @@
 -- A walk along the links of a hash: what it comes to, and how a new slot is linked behind the last one.
-use Rattle.std.specs.Prelude.{ℕ, zero, suc, ◌+◌, ◌-◌, ◌<◌, ◌≡◌, List, cond, set, eqb}
+use Rattle.std.specs.Prelude.{ℕ, zero, suc, ◌+◌, ◌-◌, ◌<◌, ◌≡◌, List, cond, set, eqb, Some, None}
 use Rattle.entry_slots.specs.Slots.{key_at}
 use Rattle.entry_slots.specs.Table.{Table, find}
 use Rattle.entry_slots.specs.declared.EntryKey.{EntryKey}
-use Rattle.entry_slots.specs.declared.slots.Found.TheVariants.{At, Nothing}
 use Rattle.entry_slots.specs.Index.{hash, first_link, head_of}
 use Rattle.entry_slots.specs.declared.links.Probe.{Probe}
 use Rattle.entry_slots.specs.declared.links.Probe.TheVariants.{Hit, Last}
@@ -25,8 +24,8 @@ pub record LastOf (m : ℕ) (t : Table) (h link : ℕ) : Type 0 where
 
 -- what a walk along the links of a key's hash says: the slot of the key, or that there is none, and the last link where there are heads
 unfoldable pub Probed : ℕ → Table → EntryKey → Probe → Type 0
-Probed m t k (Hit i) = find t k ≡ At i
-Probed m t k (Last l) = (find t k ≡ Nothing) × (0 < m → LastOf m t (hash m k) l)
+Probed m t k (Hit i) = find t k ≡ Some i
+Probed m t k (Last l) = (find t k ≡ None) × (0 < m → LastOf m t (hash m k) l)
 
 -- the slot that an entry under the key goes to then: that of the key, or the first that is not used
 abbrev pub slot_by : ℕ → Probe → ℕ

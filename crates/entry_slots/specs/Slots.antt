@@ -1,12 +1,10 @@
 -- The slots of a table in a flat list of words: seven words a slot.
-use Rattle.std.specs.Prelude.{ℕ, zero, suc, ◌+◌, ◌*◌, ◌/◌, List, [], ◌∷◌, ◌++◌, Bool, cond, ◌&&◌, length, get_or, eqb}
+use Rattle.std.specs.Prelude.{ℕ, zero, suc, ◌+◌, ◌*◌, ◌/◌, List, [], ◌∷◌, ◌++◌, Bool, cond, ◌&&◌, length, get_or, eqb, Option, Some, None}
 use Rattle.std.proofs.lemmas.List.Edits.{sets}
 use Rattle.base.specs.Lists.{rows}
 use Rattle.entry_slots.specs.declared.EntryKey.{EntryKey}
 use Rattle.entry_slots.specs.declared.NamePlace.{NamePlace}
 use Rattle.entry_slots.specs.declared.EntryInfo.{EntryInfo}
-use Rattle.entry_slots.specs.declared.slots.Found.{Found}
-use Rattle.entry_slots.specs.declared.slots.Found.TheVariants.{At, Nothing}
 
 -- the words of a slot
 abbrev pub stride : ℕ
@@ -49,9 +47,9 @@ unfoldable pub put_at : List ℕ → ℕ → EntryKey → EntryInfo → List ℕ
 put_at s i k e = sets s (i * stride) (slot_words k e)
 
 -- the lowest of the n slots from i on that has the key k
-unfoldable pub find_from : List ℕ → EntryKey → ℕ → ℕ → Found
-find_from s k i zero = Nothing
-find_from s k i (suc n) = cond (same_key (key_at s i) k) (At i) (find_from s k (i + 1) n)
+unfoldable pub find_from : List ℕ → EntryKey → ℕ → ℕ → Option ℕ
+find_from s k i zero = None
+find_from s k i (suc n) = cond (same_key (key_at s i) k) (Some i) (find_from s k (i + 1) n)
 
 -- where the names of the first n slots lie
 abbrev pub names_in : List ℕ → ℕ → List NamePlace

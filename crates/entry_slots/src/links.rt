@@ -1,16 +1,17 @@
 // The links of an index: how it is built, how a key is found by it, and how a new slot is linked.
 //
 // Heads of length 0 are no index: a key is then found by passing over the used slots.
-ghost use Rattle.std.specs.Prelude.{◌≡◌, ◌+◌, ◌*◌, ◌≤◌, ◌<◌, length, replicate};
+ghost use Rattle.std.specs.Prelude.{◌≡◌, ◌+◌, ◌*◌, ◌≤◌, ◌<◌, length};
 ghost use Rattle.entry_slots.specs.Slots.{stride};
 ghost use Rattle.entry_slots.specs.Table.{table, find};
 ghost use Rattle.entry_slots.specs.Index.{hash, heads_of, nexts_of, Indexed, enough};
 ghost use Rattle.entry_slots.specs.Probing.{Probed, slot_by, heads_linked, nexts_linked};
 
 use crate::EntryKey;
-use crate::slots::{Found, key_at, same_key};
+use crate::slots::key_at;
 
 // What a walk along the links of a key's hash comes to: the slot that has the key, or the last link, 0 where there is none.
+// Both are answers, and neither is an error.
 #[derive(Clone, Copy)]
 pub enum Probe {
     Hit(usize),
@@ -36,7 +37,7 @@ pub fn hash_of(m: usize, key: EntryKey) -> usize
     mixed as usize % m
 }
 
-// The walk along the links of a key's hash.
+// The walk along the links of a key's hash: it goes by the links, and counts nothing.
 fn probe_key(slots: &[u64], used: usize, heads: &[u64], nexts: &[u64], key: EntryKey) -> Probe
     requires stride_in_bounds { (used * stride ≤ length slots.now) × (0 < length heads.now) × (used ≤ length nexts.now) }
     requires indexed { Indexed (table slots.now used) heads.now nexts.now }
@@ -46,7 +47,7 @@ fn probe_key(slots: &[u64], used: usize, heads: &[u64], nexts: &[u64], key: Entr
     let mut last: u64 = 0;
     while 0 < link {
         let i = (link - 1) as usize;
-        if same_key(key_at(slots, i), key) {
+        if key_at(slots, i) == key {
             return Probe::Hit(i);
         }
         last = link;
@@ -65,20 +66,26 @@ pub fn seek(slots: &[u64], used: usize, heads: &[u64], nexts: &[u64], key: Entry
         return probe_key(slots, used, heads, nexts, key);
     }
     match crate::slots::find(slots, used, key) {
-        Found::At(i) => Probe::Hit(i),
-        Found::Nothing => Probe::Last(0),
+        Some(i) => Probe::Hit(i),
+        None => Probe::Last(0),
     }
 }
 
 // The slot of a key: the lowest used one that has it.
-pub fn find(slots: &[u64], used: usize, heads: &[u64], nexts: &[u64], key: EntryKey) -> Found
+pub fn find(
+    slots: &[u64],
+    used: usize,
+    heads: &[u64],
+    nexts: &[u64],
+    key: EntryKey,
+) -> Option<usize>
     requires stride_in_bounds { (used * stride ≤ length slots.now) × (0 < length heads.now → used ≤ length nexts.now) }
     requires indexed { Indexed (table slots.now used) heads.now nexts.now }
     ensures { result ≡ find (table slots.now used) key }
 {
     match seek(slots, used, heads, nexts, key) {
-        Probe::Hit(i) => Found::At(i),
-        Probe::Last(_) => Found::Nothing,
+        Probe::Hit(i) => Some(i),
+        Probe::Last(_) => None,
     }
 }
 
@@ -92,17 +99,6 @@ pub fn slot_of(found: Probe, used: usize) -> usize
     }
 }
 
-// Sets every word to 0.
-fn clear(words: &mut [u64])
-    ensures { words.new ≡ replicate (length words.old) 0 }
-{
-    let mut i: usize = 0;
-    while i < words.len() {
-        words[i] = 0;
-        i += 1;
-    }
-}
-
 // Makes the index of a table, whatever the words held.
 pub fn build(slots: &[u64], used: usize, heads: &mut [u64], nexts: &mut [u64])
     requires { (used * stride ≤ length slots.now) × (0 < length heads.old → used ≤ length nexts.old) }
@@ -113,11 +109,9 @@ pub fn build(slots: &[u64], used: usize, heads: &mut [u64], nexts: &mut [u64])
     if m == 0 {
         return;
     }
-    clear(heads);
-    clear(nexts);
-    let mut i = used;
-    while 0 < i {
-        i -= 1;
+    heads.fill(0);
+    nexts.fill(0);
+    for i in (0..used).rev() {
         let h = hash_of(m, key_at(slots, i));
         nexts[i] = heads[h];
         heads[h] = (i + 1) as u64;

@@ -36,12 +36,10 @@ pub fn all_inside(slots: &[u64], used: usize, journal_length: usize, image_lengt
     requires { used * stride ≤ length slots.now }
     ensures { result ≡ all_inside (lengths journal_length image_length) (names_in slots.now used) }
 {
-    let mut i: usize = 0;
-    while i < used {
+    for i in 0..used {
         if !is_inside(name_at(slots, i), journal_length, image_length) {
             return false;
         }
-        i += 1;
     }
     true
 }

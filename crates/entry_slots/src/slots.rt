@@ -1,30 +1,12 @@
 // The slots of a table: what stands in one, the slot of a key, and an entry put into one.
 ghost use Rattle.std.specs.Prelude.{◌≡◌, ◌+◌, ◌*◌, ◌≤◌, length};
-ghost use Rattle.entry_slots.specs.Slots.{stride, same_key, key_in, key_at, slot_name, info_at, put_at};
+ghost use Rattle.entry_slots.specs.Slots.{stride, key_in, key_at, slot_name, info_at, put_at};
 ghost use Rattle.entry_slots.specs.Table.{table, find};
 
 use crate::{EntryInfo, EntryKey, NamePlace};
-use base::put_words;
 
 // The words of a slot.
 pub const STRIDE: usize = 7;
-
-// Where a key stands: in a slot, or in none.
-#[derive(Clone, Copy)]
-pub enum Found {
-    At(usize),
-    Nothing,
-}
-
-// Whether two keys are the same.
-pub fn same_key(a: EntryKey, b: EntryKey) -> bool
-    ensures { result ≡ same_key a b }
-{
-    if a.entry == b.entry {
-        return a.sequence == b.sequence;
-    }
-    false
-}
 
 // The key that stands from word p on.
 pub fn key_in(words: &[u64], p: usize) -> EntryKey
@@ -69,18 +51,16 @@ pub fn info_at(slots: &[u64], i: usize) -> EntryInfo
 }
 
 // The slot of a key: the lowest used one that has it, by passing over the used slots.
-pub fn find(slots: &[u64], used: usize, key: EntryKey) -> Found
+pub fn find(slots: &[u64], used: usize, key: EntryKey) -> Option<usize>
     requires { used * stride ≤ length slots.now }
     ensures { result ≡ find (table slots.now used) key }
 {
-    let mut i: usize = 0;
-    while i < used {
-        if same_key(key_at(slots, i), key) {
-            return Found::At(i);
+    for i in 0..used {
+        if key_at(slots, i) == key {
+            return Some(i);
         }
-        i += 1;
     }
-    Found::Nothing
+    None
 }
 
 // An entry into slot i.
@@ -99,5 +79,5 @@ pub fn put(slots: &mut [u64], i: usize, key: EntryKey, info: EntryInfo)
         name.offset,
         name.length,
     ];
-    put_words(slots, i * STRIDE, &words);
+    base::put(slots, i * STRIDE, &words);
 }

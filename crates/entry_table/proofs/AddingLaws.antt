@@ -7,15 +7,15 @@ use native.Mathlib.Omega.{arith}
 use borrow.Author.Tests.{eqb-true, eqb-false, ltb-true, ltb-false}
 use lib.ListN.{length}
 use lib.Dec.{eqb, ltb}
-use Rattle.base.specs.Outcome.{Outcome, refused, answered}
+use Rattle.base.specs.Outcome.{Outcome, refused, answered, outcome}
 use Rattle.entry_slots.specs.Slots.{stride, slots_in, key_at, put_at}
 use Rattle.entry_slots.specs.Table.{Table, table, find}
 use Rattle.additions.specs.Storing.{used_after, words_after}
-use Rattle.entry_table.specs.Promise.{outcome, Stores, StoresBy}
+use Rattle.entry_table.specs.Promise.{Stores, StoresBy}
 use Rattle.entry_slots.specs.declared.EntryKey.{EntryKey}
 use Rattle.entry_slots.specs.declared.EntryInfo.{EntryInfo}
-use Rattle.entry_table.specs.declared.Stored.{Stored}
-use Rattle.entry_slots.specs.declared.slots.Found.TheVariants.{At}
+use Rattle.base.specs.declared.refusal.Refusal.{Refusal}
+use Rattle.std.specs.Prelude.{Result, Some}
 use Rattle.entry_slots.proofs.FindLaws.{same-equal, find_at}
 use Rattle.entry_slots.proofs.PutLaws.{put-key, put-key-other}
 use Rattle.entry_slots.proofs.TableLaws.{find-used}
@@ -25,10 +25,10 @@ use Rattle.entry_slots.proofs.IndexLaws.{hash-below, Links, links-index, indexed
 use Rattle.entry_slots.proofs.KeepLaws.{links-same, links-more}
 
 -- what a call answers and leaves, where its outcome is known
-pub stores : {o p : Outcome Table} {s : List ℕ} {r : Stored} {w : List ℕ} → o ≡ p → outcome r ≡ used_after p → w ≡ words_after p s → Stores o s r w
+pub stores : {o p : Outcome Table} {s : List ℕ} {r : Result ℕ Refusal} {w : List ℕ} → o ≡ p → outcome r ≡ used_after p → w ≡ words_after p s → Stores o s r w
 stores e x y = record { answer = rw e x; slots-are = rw e y }
 
-pub stores-by : {o p : Outcome Table} {s heads nexts : List ℕ} {r : Stored} {w h n : List ℕ} → o ≡ p → outcome r ≡ used_after p → w ≡ words_after p s
+pub stores-by : {o p : Outcome Table} {s heads nexts : List ℕ} {r : Result ℕ Refusal} {w h n : List ℕ} → o ≡ p → outcome r ≡ used_after p → w ≡ words_after p s
     → (h ≡ heads_after p heads) × (n ≡ nexts_after (length heads) p nexts) → StoresBy o s heads nexts r w h n
 stores-by e x y z = record { store = stores e x y; heads-are = rw e z.0; nexts-are = rw e z.1 }
 
@@ -42,7 +42,7 @@ module _ (t : Table) (heads nexts : List ℕ) (some : 0 < length heads) (x : Ind
   links = indexed-links t heads nexts some x
 
   -- an entry in the slot of its key
-  pub index-over : {i : ℕ} → At i ≡ find t k → t.used ≤ slots_in t.words
+  pub index-over : {i : ℕ} → Some i ≡ find t k → t.used ≤ slots_in t.words
       → (heads ≡ heads_of (length heads) (table (put_at t.words i k e) t.used)) × (nexts ≡ nexts_of (length heads) (table (put_at t.words i k e) t.used) nexts)
   index-over {i} f fits = let made = links-index nexts (links-same (put_at t.words i k e) links keys) refl in (made.heads_after, made.nexts_after)
     where
@@ -72,7 +72,7 @@ module _ (t : Table) (heads nexts : List ℕ) (some : 0 < length heads) (x : Ind
       rw (p, q) (made.heads_after, made.nexts_after)
 
 -- the first of them with an index or with none
-pub kept-over : (t : Table) (heads nexts : List ℕ) → Indexed t heads nexts → (k : EntryKey) (e : EntryInfo) {i : ℕ} → At i ≡ find t k → t.used ≤ slots_in t.words
+pub kept-over : (t : Table) (heads nexts : List ℕ) → Indexed t heads nexts → (k : EntryKey) (e : EntryInfo) {i : ℕ} → Some i ≡ find t k → t.used ≤ slots_in t.words
     → (heads ≡ heads_of (length heads) (table (put_at t.words i k e) t.used)) × (nexts ≡ nexts_of (length heads) (table (put_at t.words i k e) t.used) nexts)
 kept-over t heads nexts x k e {i} f fits = go (ltb 0 (length heads)) refl
   where

@@ -7,14 +7,15 @@ use native.Mathlib.Omega.{arith}
 use borrow.Author.Tests.{leb-true}
 use lib.ListN.{length}
 use lib.Dec.{ltb, leb}
-use Rattle.base.specs.Outcome.{Outcome, answered}
+use Rattle.base.specs.Outcome.{Outcome, answered, outcome}
 use Rattle.base.proofs.ChoiceLaws.{cond_cases, and_right}
 use Rattle.entry_slots.specs.Slots.{slots_in}
 use Rattle.base.specs.Lists.{rows}
 use Rattle.entry_slots.specs.Table.{Table, table, Addition}
 use Rattle.additions.specs.Storing.{adding}
-use Rattle.entry_table.specs.Promise.{outcome, StoresBy}
-use Rattle.entry_table.specs.declared.Stored.{Stored}
+use Rattle.entry_table.specs.Promise.{StoresBy}
+use Rattle.base.specs.declared.refusal.Refusal.{Refusal}
+use Rattle.std.specs.Prelude.{Result}
 use Rattle.base.proofs.RowLaws.{length-rows}
 use Rattle.additions.proofs.OneLaws.{added-table}
 use Rattle.additions.proofs.AdditionLaws.{AddingRows, rows-added}
@@ -75,7 +76,7 @@ module _ {t₀ t : Table} {f : ℕ → Addition} {count i : ℕ} {heads₀ nexts
     λ h. omega (arith, room (omega (arith, keeping-heads)), keeping-nexts, w.made.rest.same),
   )
 
-  pub keeping-next : {a : Addition} {r : Stored} {n : ℕ} {s h x : List ℕ} → i < count → a ≡ f i → StoresBy (adding t (a ∷ [])) t.words heads nexts r s h x → outcome r ≡ answered n
+  pub keeping-next : {a : Addition} {r : Result ℕ Refusal} {n : ℕ} {s h x : List ℕ} → i < count → a ≡ f i → StoresBy (adding t (a ∷ [])) t.words heads nexts r s h x → outcome r ≡ answered n
       → Keeping t₀ (table s n) f count (i + 1) heads₀ nexts₀ h x
   keeping-next {a} h p y q =
       let both = index-then (length heads₀) t nexts₀ w.heads-kept w.nexts-kept (added-table t a y.store.answer y.store.slots-are q) y.heads-are y.nexts-are in

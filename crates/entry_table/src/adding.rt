@@ -6,21 +6,24 @@ ghost use Rattle.entry_slots.specs.Index.{Indexed};
 ghost use Rattle.entry_slots.specs.Probing.{Probed};
 ghost use Rattle.entry_table.specs.Promise.{AddPromise, AddByPromise};
 
-use crate::Stored;
-use base::TABLE_FULL;
+use base::refusal::Refusal;
 use entry_slots::links::{Probe, link, seek};
 use entry_slots::slots::{STRIDE, put};
 use entry_slots::{EntryInfo, EntryKey};
 
-// Stores an entry under its key. A known one is replaced, or left alone where replace is false; a new one takes the first slot
-// that is not used. Refused, with nothing written: 6 the key is new and no slot is left.
-pub fn add(slots: &mut [u64], used: usize, key: EntryKey, info: EntryInfo, replace: bool) -> Stored
+// Stores an entry under its key. A known one is replaced, or left alone where replace is false, which is a fact about the entry and no
+// step (`Addition` of specs/); a new one takes the first slot that is not used. Refused, with nothing written: 6 the key is new and no slot is left.
+pub fn add(
+    slots: &mut [u64],
+    used: usize,
+    key: EntryKey,
+    info: EntryInfo,
+    replace: bool,
+) -> Result<usize, Refusal>
     requires { used ≤ slots_in slots.old }
     ensures { AddPromise slots used key info replace result }
 {
-    let mut heads: [u64; 0] = [];
-    let mut nexts: [u64; 0] = [];
-    add_by(slots, used, &mut heads, &mut nexts, key, info, replace)
+    add_by(slots, used, &mut [], &mut [], key, info, replace)
 }
 
 // Stores an entry under its key by way of the index, which it keeps. A known one is replaced, or left alone where replace is false;
@@ -33,7 +36,7 @@ pub fn add_by(
     key: EntryKey,
     info: EntryInfo,
     replace: bool,
-) -> Stored
+) -> Result<usize, Refusal>
     requires used_bound { used ≤ slots_in slots.old }
     requires indexed { Indexed (table slots.old used) heads.old nexts.old × (0 < length heads.old → slots_in slots.old ≤ length nexts.old) }
     ensures { AddByPromise slots used heads nexts key info replace result }
@@ -52,7 +55,7 @@ pub fn add_found(
     info: EntryInfo,
     replace: bool,
     found: Probe,
-) -> Stored
+) -> Result<usize, Refusal>
     requires used_bound { used ≤ slots_in slots.old }
     requires indexed { Indexed (table slots.old used) heads.old nexts.old × (0 < length heads.old → slots_in slots.old ≤ length nexts.old) }
     requires probed { Probed (length heads.old) (table slots.old used) key found }
@@ -63,18 +66,18 @@ pub fn add_found(
             if replace {
                 put(slots, i, key, info);
             }
-            Stored::Used(used)
+            Ok(used)
         }
         Probe::Last(last) => {
             if slots.len() / STRIDE <= used {
-                return Stored::Refused(TABLE_FULL);
+                return Err(Refusal::TableFull);
             }
             put(slots, used, key, info);
             if heads.len() == 0 {
-                return Stored::Used(used + 1);
+                return Ok(used + 1);
             }
             link(used, heads, nexts, key, last);
-            Stored::Used(used + 1)
+            Ok(used + 1)
         }
     }
 }

@@ -5,34 +5,28 @@
 // does without, and answers and stores the same. A call with no index is the same code with heads and nexts of length 0.
 //
 // Every function here is proved. No public call has a `requires`: any table and any entry get an answer. Of journal and image
-// only the lengths are used, so names decide nothing. The functions of the modules are helpers of our own crates, and ask for room
-// and for an index that is the table's.
+// only the lengths are used, so names decide nothing. The functions of the modules are helpers of our own crates; those of `adding`
+// ask for room and for an index that is the table's.
 #![tactic(auto)]
 
 pub mod adding;
 mod seeding;
 
-ghost use Rattle.std.specs.Prelude.{true, false, ◌≤◌, ◌<◌, length};
+ghost use Rattle.std.specs.Prelude.{true, false};
 ghost use Rattle.entry_slots.specs.Names.{lengths};
-ghost use Rattle.entry_slots.specs.Slots.{slots_in};
-ghost use Rattle.entry_table.specs.Promise.{StorePromise, InsertPromise, SeedPromise, SeedByPromise, SeedIndexedPromise};
+ghost use Rattle.entry_table.specs.Promise.{StorePromise, InsertPromise, SeedPromise, SeedIndexedPromise};
 
 use crate::adding::add;
-use crate::seeding::add_carved;
-use additions::carved::carved_inside;
-use additions::room::carved_fit;
-use base::{BAD_STATE, NAME_OUTSIDE, TABLE_FULL};
-use entry_slots::links::{build, is_enough};
+use crate::seeding::seed_by;
+use additions::source::CarvedWords;
+use base::refusal::Refusal;
+use entry_slots::links::is_enough;
 use entry_slots::names::is_inside;
 use entry_slots::slots::STRIDE;
 use entry_slots::{EntryInfo, EntryKey};
 
-// What storing answers: the number of used slots, or a refusal's number.
-#[derive(Clone, Copy)]
-pub enum Stored {
-    Used(usize),
-    Refused(u32),
-}
+// Each call that stores answers the number of used slots, or why it is refused. Those that differ by a flag or by an index are the
+// calls that README and C name, each one call of one function.
 
 // Stores an entry under its key. A known one is replaced, in the slot where it stands.
 // Refused, with nothing written: 9 used is above the slots, 7 the name's place passes its slice, 6 the key is new and no slot
@@ -44,7 +38,7 @@ pub fn insert(
     used: usize,
     key: EntryKey,
     info: EntryInfo,
-) -> Stored
+) -> Result<usize, Refusal>
     ensures { InsertPromise journal image slots used key info true result }
 {
     store(journal.len(), image.len(), slots, used, key, info, true)
@@ -59,7 +53,7 @@ pub fn insert_if_absent(
     used: usize,
     key: EntryKey,
     info: EntryInfo,
-) -> Stored
+) -> Result<usize, Refusal>
     ensures { InsertPromise journal image slots used key info false result }
 {
     store(journal.len(), image.len(), slots, used, key, info, false)
@@ -70,12 +64,16 @@ pub fn insert_if_absent(
 // after the last whole entry are ignored.
 // Refused, with nothing written: 9 used is above the slots, 7 a listed name's place passes the image, also of a known entry,
 // 6 the different new keys are more than the slots that are left.
-pub fn seed(journal: &[u8], image: &[u8], slots: &mut [u64], used: usize, entries: &[u64]) -> Stored
+pub fn seed(
+    journal: &[u8],
+    image: &[u8],
+    slots: &mut [u64],
+    used: usize,
+    entries: &[u64],
+) -> Result<usize, Refusal>
     ensures { SeedPromise journal image slots used entries result }
 {
-    let mut heads: [u64; 0] = [];
-    let mut nexts: [u64; 0] = [];
-    seed_indexed(journal, image, slots, used, entries, &mut heads, &mut nexts)
+    seed_indexed(journal, image, slots, used, entries, &mut [], &mut [])
 }
 
 // What `seed` does, by way of an index.
@@ -87,39 +85,22 @@ pub fn seed_indexed(
     entries: &[u64],
     heads: &mut [u64],
     nexts: &mut [u64],
-) -> Stored
+) -> Result<usize, Refusal>
     ensures { SeedIndexedPromise journal image slots used entries heads nexts result }
 {
+    let words = CarvedWords { words: entries };
     if is_enough(slots.len() / STRIDE, heads, nexts) {
-        return seed_by(journal, image, slots, used, entries, heads, nexts);
+        return seed_by(journal.len(), image.len(), slots, used, words, heads, nexts);
     }
-    seed_by(journal, image, slots, used, entries, &mut heads[..0], nexts)
-}
-
-// The same with words that are enough, or with no heads.
-fn seed_by(
-    journal: &[u8],
-    image: &[u8],
-    slots: &mut [u64],
-    used: usize,
-    entries: &[u64],
-    heads: &mut [u64],
-    nexts: &mut [u64],
-) -> Stored
-    requires { 0 < length heads.old → slots_in slots.old ≤ length nexts.old }
-    ensures { SeedByPromise journal image slots used entries heads nexts result }
-{
-    if slots.len() / STRIDE < used {
-        return Stored::Refused(BAD_STATE);
-    }
-    if !carved_inside(entries, journal.len(), image.len()) {
-        return Stored::Refused(NAME_OUTSIDE);
-    }
-    if !carved_fit(entries, slots, used, slots.len() / STRIDE) {
-        return Stored::Refused(TABLE_FULL);
-    }
-    build(slots, used, heads, nexts);
-    add_carved(slots, used, entries, heads, nexts)
+    seed_by(
+        journal.len(),
+        image.len(),
+        slots,
+        used,
+        words,
+        &mut heads[..0],
+        nexts,
+    )
 }
 
 // One entry, with journal and image by their lengths.
@@ -131,15 +112,14 @@ fn store(
     key: EntryKey,
     info: EntryInfo,
     replace: bool,
-) -> Stored
+) -> Result<usize, Refusal>
     ensures { StorePromise (lengths journal_length image_length) slots used key info replace result }
 {
     if slots.len() / STRIDE < used {
-        return Stored::Refused(BAD_STATE);
+        return Err(Refusal::BadState);
     }
-    let name = info.name;
-    if !is_inside(name, journal_length, image_length) {
-        return Stored::Refused(NAME_OUTSIDE);
+    if !is_inside(info.name, journal_length, image_length) {
+        return Err(Refusal::NameOutside);
     }
     add(slots, used, key, info, replace)
 }

@@ -11,16 +11,17 @@ use Rattle.entry_slots.specs.Names.{lengths_of}
 use Rattle.entry_slots.specs.Table.{Table, table}
 use Rattle.additions.proofs.CarverLaws.{seeding-carved}
 use Rattle.entry_table.specs.Promise.{Stores}
-use Rattle.entry_table.specs.declared.Stored.{Stored}
-use Rattle.entry_table.specs.declared.Stored.TheVariants.{Used, Refused}
+use Rattle.std.specs.Prelude.{Result, Ok, Err}
+use Rattle.base.specs.Outcome.{outcome}
+use Rattle.base.specs.Refusals.{number_of}
+use Rattle.base.specs.declared.refusal.Refusal.{Refusal}
 use Rattle.rewind_records.specs.Turning.{Next}
 use Rattle.rewind_steps.specs.Taking.{Step}
 use Rattle.rewind.specs.Promise.{start_out}
-use Rattle.rewind.specs.Starting.{Tables, begun, first_after, forward_after, start_outcome}
+use Rattle.rewind.specs.Starting.{Tables, begun, first_after, forward_after}
 use Rattle.rewind.specs.Stepping.{stepped, step_answer}
 use Rattle.rewind.specs.Written.{stepped_with_text, written_answer}
-use Rattle.rewind.specs.declared.Started.{Started}
-use Rattle.rewind.specs.declared.Started.TheVariants as started
+use Rattle.rewind.specs.declared.Rewind.{Rewind}
 use Rattle.masking.specs.Calls.{Sources, kept, State, kept_at, rewind_of, step, stored, start_result, next_result}
 use Rattle.masking.specs.Promised.{stored_as, InsertIs, InsertIfAbsentIs, SeedIs, SeedFromCarvedIs, started_as, StartIs, path_of, path_text_of, NextIs, NextTextIs, WindowListsAreCalls}
 use Rattle.usn_window.specs.Run.{reading_of, buffer_of}
@@ -34,17 +35,17 @@ module _ (s : Sources) (st : State) (i : ℕ) where
   words = (get_or st.tables i (kept [] 0 0)).words
 
   -- a call that stores, by what its contract says: where it is answered, and where it is refused
-  stored-answered : (t : Table) (r : Stored) (words' : List ℕ) → Stores (answered t) words r words' → stored i st (answered t) ≡ stored_as s st i r words'
+  stored-answered : (t : Table) (r : Result ℕ Refusal) (words' : List ℕ) → Stores (answered t) words r words' → stored i st (answered t) ≡ stored_as s st i r words'
   unfolding stored
-  stored-answered t (Used m) words' h = let e = h.answer in let k : m ≡ t.used = cc in rw (h.slots-are, k) refl
-  stored-answered t (Refused m) words' h = let e = h.answer in let z : ◌≡◌ {A = ℕ} 0 1 = cc in absurd (omega arith)
+  stored-answered t (Ok m) words' h = let e = h.answer in let k : m ≡ t.used = cc in rw (h.slots-are, k) refl
+  stored-answered t (Err m) words' h = let e = h.answer in let z : ◌≡◌ {A = ℕ} 0 1 = cc in absurd (omega arith)
 
-  stored_refused : (n : ℕ) (r : Stored) (words' : List ℕ) → Stores (refused n) words r words' → stored i st (refused n) ≡ stored_as s st i r words'
+  stored_refused : (n : ℕ) (r : Result ℕ Refusal) (words' : List ℕ) → Stores (refused n) words r words' → stored i st (refused n) ≡ stored_as s st i r words'
   unfolding stored
-  stored_refused n (Used m) words' h = let e = h.answer in let z : ◌≡◌ {A = ℕ} 0 1 = cc in absurd (omega arith)
-  stored_refused n (Refused m) words' h = let e = h.answer in let k : m ≡ n = cc in rw (h.slots-are, k) refl
+  stored_refused n (Ok m) words' h = let e = h.answer in let z : ◌≡◌ {A = ℕ} 0 1 = cc in absurd (omega arith)
+  stored_refused n (Err m) words' h = let e = h.answer in let k : number_of m ≡ n = cc in rw (h.slots-are, k) refl
 
-  stored-as : (o : Outcome Table) (r : Stored) (words' : List ℕ) → Stores o words r words' → stored i st o ≡ stored_as s st i r words'
+  stored-as : (o : Outcome Table) (r : Result ℕ Refusal) (words' : List ℕ) → Stores o words r words' → stored i st o ≡ stored_as s st i r words'
   stored-as (refused n) r words' h = stored_refused n r words' h
   stored-as (answered t) r words' h = stored-answered t r words' h
 
@@ -63,19 +64,19 @@ module _ (s : Sources) (st : State) (i : ℕ) where
 
   -- a start, where it is answered and where it is refused
   module _ (j : ℕ) (first' words' : List ℕ) where
-    start-answered : (ts : Tables) (r : Started) → start_outcome r ≡ answered (begun ts) → first' ≡ ts.first.words → words' ≡ ts.forward.words
+    start-answered : (ts : Tables) (r : Result Rewind Refusal) → outcome r ≡ answered (begun ts) → first' ≡ ts.first.words → words' ≡ ts.forward.words
         → start_result i j st (answered ts) ≡ started_as s st i j r first' words'
     unfolding start_result
-    start-answered ts (started.Begun q) e f g = let k : q ≡ begun ts = cc in rw (f, g, k) refl
-    start-answered ts (started.Refused m) e f g = let z : ◌≡◌ {A = ℕ} 0 1 = cc in absurd (omega arith)
+    start-answered ts (Ok q) e f g = let k : q ≡ begun ts = cc in rw (f, g, k) refl
+    start-answered ts (Err m) e f g = let z : ◌≡◌ {A = ℕ} 0 1 = cc in absurd (omega arith)
 
-    start-refused : (n : ℕ) (r : Started) → start_outcome r ≡ refused n → first' ≡ (kept_at i st).words → words' ≡ (kept_at j st).words
+    start-refused : (n : ℕ) (r : Result Rewind Refusal) → outcome r ≡ refused n → first' ≡ (kept_at i st).words → words' ≡ (kept_at j st).words
         → start_result i j st (refused n) ≡ started_as s st i j r first' words'
     unfolding start_result
-    start-refused n (started.Begun q) e f g = let z : ◌≡◌ {A = ℕ} 0 1 = cc in absurd (omega arith)
-    start-refused n (started.Refused m) e f g = let k : m ≡ n = cc in rw (f, g, k) refl
+    start-refused n (Ok q) e f g = let z : ◌≡◌ {A = ℕ} 0 1 = cc in absurd (omega arith)
+    start-refused n (Err m) e f g = let k : number_of m ≡ n = cc in rw (f, g, k) refl
 
-    start-as : (o : Outcome Tables) (r : Started) → start_outcome r ≡ map_outcome begun o → first' ≡ first_after o (kept_at i st).words
+    start-as : (o : Outcome Tables) (r : Result Rewind Refusal) → outcome r ≡ map_outcome begun o → first' ≡ first_after o (kept_at i st).words
         → words' ≡ forward_after o (kept_at j st).words → start_result i j st o ≡ started_as s st i j r first' words'
     start-as (refused n) r e f g = start-refused n r e f g
     start-as (answered ts) r e f g = start-answered ts r e f g

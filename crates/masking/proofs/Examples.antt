@@ -39,7 +39,6 @@ use Rattle.mft_attributes.specs.Filename.{replaces, keep}
 use Rattle.mft_attributes.specs.Attributes.{given, attribute_at, filename_in, attribute_visit}
 use Rattle.mft_sectors.specs.Signature.{has_signature}
 use Rattle.mft_sectors.specs.SectorEnds.{ending, sound, home, restored_by}
-use Rattle.mft_sectors.specs.Stored.{in_entry, image_bytes}
 use Rattle.mft_carver.specs.Entry.{judged as entry_judged}
 use Rattle.mft_carver.specs.Carve.{image_visit, carving as image_carving, carving_list as image_list}
 use Rattle.mft_carver.specs.Settings.{standard as image_standard}

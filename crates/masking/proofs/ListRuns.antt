@@ -3,11 +3,11 @@
 use Prim.Native.Nat.{ℕ}
 use mathlib.Core.Path.{◌≡◌, refl, sym, ◌∙◌}
 use mathlib.Core.List.{List, [], ◌∷◌, ◌++◌, map}
-use lib.ListN.{replicate, length}
+use lib.ListN.{replicate}
 use Rattle.base.specs.Lists.{every, rows}
 use Rattle.base.specs.Outcome.{refused, answered}
 use Rattle.base.specs.Refusals.{text_full}
-use Rattle.usn_record.specs.Bytes.{le, le_at, le_bytes}
+use Rattle.usn_record.specs.Bytes.{le, le_at}
 use Rattle.usn_record.specs.Fields.{reference_of, filename_of}
 use Rattle.usn_record.specs.Record.{record_of, parsed, listed}
 use Rattle.usn_record.specs.Sample.{reference}
@@ -24,7 +24,7 @@ use Rattle.chain.specs.Tracing.{with_places, in_domain}
 use Rattle.chain.specs.declared.ChainEnd.TheVariants.{Root}
 use Rattle.path_text.specs.Text.{end_text, image_text, place_text, step_text, path_text}
 use Rattle.rewind_records.specs.Environment.{rewind_refusal}
-use Rattle.rewind_records.specs.Turning.{ended, next, turning}
+use Rattle.rewind_records.specs.Turning.{ended, turning}
 use Rattle.rewind_steps.specs.StepText.{record_text}
 use Rattle.rewind.specs.Starting.{starting}
 use Rattle.base.specs.Masked.{Masked}
@@ -50,7 +50,7 @@ use Rattle.chain.specs.Tracing.{tracing}
 use Rattle.path.specs.Written.{tracing_with_text}
 use Rattle.masking.specs.Calls.{sources, kept, State, Call, plain, next_text, Plain, insert, seed, start, begun, step, Result, stored, start_result, next_result, Done, results, struck, plains_of, results_of}
 use Rattle.masking.specs.Calls as call
-use Rattle.masking.specs.Demand.{journal_names, image_names, scanner, scan_places, Share}
+use Rattle.masking.specs.Demand.{journal_names, scanner, scan_places, Share}
 use Rattle.masking.proofs.Demand.{names-decide-nothing}
 use Rattle.masking.proofs.Examples.{image, image', entries, images-masked}
 use Rattle.masking.proofs.Sample.{units, fixed2, fixed3, key, placed, info, unchanged, one_more}

@@ -12,7 +12,6 @@ use borrow.Author.Tests.{leb-true, eqb-true, eqb-false}
 use lib.Seq.{set-set, get_or-set_same}
 use Rattle.base.specs.Outcome.{Outcome, refused, answered}
 use Rattle.base.proofs.ChoiceLaws.{cond_cases}
-use Rattle.entry_slots.specs.Table.{table}
 use Rattle.rewind_records.specs.Environment.{environment_of, rewind_refusal}
 use Rattle.rewind_records.specs.Turning.{Next, ended, next}
 use Rattle.rewind_steps.specs.Taking.{Step}
@@ -24,7 +23,9 @@ use Rattle.chain.specs.Chain.{chain_words}
 use Rattle.entry_slots.specs.declared.NamePlace.{NamePlace}
 use Rattle.run_steps.specs.Running.{Run, run_from, run_and_step, onward, running}
 use Rattle.rewind_run.specs.Promise.{RunsIndexed}
-use Rattle.rewind_run.specs.declared.RunAnswer.{RunAnswer}
+use Rattle.std.specs.Prelude.{Result as Returned}
+use Rattle.base.specs.declared.refusal.Refusal.{Refusal}
+use Rattle.run_steps.specs.declared.RewindRun.{RewindRun}
 use Rattle.rewind_run.specs.Calls.{rooms_on, rooms, call_rooms}
 use Rattle.rewind_run.proofs.AsSteps.{answered-run, refused-run, step-refused}
 use Rattle.masking.specs.Calls.{Sources, Kept, kept, State, kept_at, rewind_of, Result, result_of, next_result, results, reached, Call, next_text}
@@ -112,7 +113,7 @@ module _ (s : Sources) (st : State) (i : ℕ) (inside : i < length st.tables) (n
   abbrev tests : ℕ
   tests = rewind_refusal (environment_of s.journal s.image s.records) (forward_table k.words (rewind_of k))
 
-  module _ {heads links ends text : List ℕ} {r : RunAnswer} {words' heads' nexts' ends' text' : List ℕ}
+  module _ {heads links ends text : List ℕ} {r : Returned RewindRun Refusal} {words' heads' nexts' ends' text' : List ℕ}
       (h : RunsIndexed s.journal s.image s.records k.words (rewind_of k) heads links ends text r words' heads' nexts' ends' text') where
     abbrev Is : List ℕ → Type 0
     Is sizes = RunAs s st i r words' (map (next_text i) sizes)

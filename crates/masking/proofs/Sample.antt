@@ -8,7 +8,7 @@ use Rattle.base.specs.declared.Place.{Place}
 use Rattle.base.proofs.MaskedLaws.{masked-middle}
 use Rattle.base.proofs.RowLaws.{masked-bytes}
 use Rattle.usn_record.specs.Bytes.{le_bytes}
-use Rattle.usn_record.specs.Sample.{sample_header, reference}
+use Rattle.usn_record.specs.Sample.{sample_header}
 use Rattle.mft_carver.specs.Sample.{before_unit, behind_unit, across}
 use Rattle.mft_sectors.specs.Homes.{byte_at}
 use Rattle.entry_slots.specs.declared.EntryKey.{EntryKey}

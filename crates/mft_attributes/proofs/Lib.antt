@@ -1,4 +1,3 @@
 pub mod FilenameLaws
-pub mod AttributeLaws
 pub mod LieLaws
 pub mod TwoRunLaws

@@ -1,5 +1,6 @@
 -- Where the names of an entry lie: past the first 66 bytes of their attribute, and inside it. Assumes nothing.
 use Prim.Native.Nat.{ℕ, zero, suc, ◌+◌, ◌*◌, ◌≤◌, ◌<◌}
+use Rattle.std.specs.Prelude.{Option, Some, None}
 use mathlib.Core.Path.{◌≡◌, ap, sym, subst, ◌∙◌}
 use mathlib.Core.List.{List, [], ◌∷◌}
 use mathlib.Core.Bool.{◌&&◌, ◌||◌}
@@ -18,8 +19,6 @@ use Rattle.mft_attributes.specs.Step.{attribute_of, filename_at}
 use Rattle.mft_attributes.specs.declared.attributes.AttributeStep.{AttributeStep}
 use Rattle.mft_attributes.specs.declared.attributes.AttributeStep.TheVariants.{Named}
 use Rattle.mft_attributes.specs.declared.filename.Filename.{Filename}
-use Rattle.mft_attributes.specs.declared.filename.Kept.{Kept}
-use Rattle.mft_attributes.specs.declared.filename.Kept.TheVariants.{Nothing, Name}
 
 -- a name that begins at low or after, is not empty, and ends at end or before
 pub record FilenameLies (low end : ℕ) (f : Filename) : Type 0 where
@@ -98,26 +97,26 @@ attributes-lie e zero a = tt
 attributes-lie e (suc n) a = after-lies (visit-shape e a) (walk (attribute_visit e) n) (attributes-lie e n)
 
 -- what holds of every name holds of the one that is kept
-abbrev pub KeptIs : (Filename → Type 0) → Kept → Type 0
-KeptIs P Nothing = Unit {0}
-KeptIs P (Name f) = P f
+abbrev pub KeptIs : (Filename → Type 0) → Option Filename → Type 0
+KeptIs P None = Unit {0}
+KeptIs P (Some f) = P f
 
-keep-is : (P : Filename → Type 0) (k : Kept) (new : Filename) → KeptIs P k → P new → KeptIs P (keep k new)
+keep-is : (P : Filename → Type 0) (k : Option Filename) (new : Filename) → KeptIs P k → P new → KeptIs P (keep k new)
 unfolding keep
-keep-is P Nothing new h g = g
-keep-is P (Name old) new h g = cond_cases (KeptIs P) (replaces old.namespace new.namespace) (λ _. g) (λ _. h)
+keep-is P None new h g = g
+keep-is P (Some old) new h g = cond_cases (KeptIs P) (replaces old.namespace new.namespace) (λ _. g) (λ _. h)
 
-keep_all-lies : (low end : ℕ) (k : Kept) (xs : List Attribute) → KeptIs (FilenameLies low end) k → All (NameLies low end) xs → KeptIs (FilenameLies low end) (keep_all k xs)
+keep_all-lies : (low end : ℕ) (k : Option Filename) (xs : List Attribute) → KeptIs (FilenameLies low end) k → All (NameLies low end) xs → KeptIs (FilenameLies low end) (keep_all k xs)
 keep_all-lies low end k [] h g = h
 keep_all-lies low end k (other ∷ xs) h g = keep_all-lies low end k xs h g.1
 keep_all-lies low end k (named f ∷ xs) h g = keep_all-lies low end (keep k f) xs (keep-is (FilenameLies low end) k f h g.0) g.1
 
 pub filename-lies : (n : ℕ) (e : List ℕ) (a : ℕ) → KeptIs (FilenameLies (a + fixed) (length e)) (filename_in n e a)
 unfolding filename_in
-filename-lies n e a = keep_all-lies (a + fixed) (length e) Nothing (attributes_in n e a) tt (attributes-lie e n a)
+filename-lies n e a = keep_all-lies (a + fixed) (length e) None (attributes_in n e a) tt (attributes-lie e n a)
 
 -- so the name that was found lies there
-pub found-lies : (n : ℕ) (e : List ℕ) (a : ℕ) {x : Kept} {f : Filename} → x ≡ filename_in n e a → x ≡ Name f → FilenameLies (a + fixed) (length e) f
+pub found-lies : (n : ℕ) (e : List ℕ) (a : ℕ) {x : Option Filename} {f : Filename} → x ≡ filename_in n e a → x ≡ Some f → FilenameLies (a + fixed) (length e) f
 found-lies n e a g h =
     let r : KeptIs (FilenameLies (a + fixed) (length e)) (filename_in n e a) = filename-lies n e a in
     rw (sym g ∙ h) at r

@@ -2,30 +2,28 @@
 --
 -- A name's length is a byte before the name. Where the content that it stands in passes its attribute, that byte may lie in the name of
 -- another attribute; but then no name could end inside the attribute, whatever the byte says.
-use Prim.Native.Nat.{ℕ, suc, ◌+◌, ◌≤◌, ◌<◌}
+use Prim.Native.Nat.{ℕ, suc, ◌+◌, ◌*◌, ◌≤◌, ◌<◌}
+use Rattle.std.specs.Prelude.{Option, Some, None}
 use mathlib.Core.Path.{◌≡◌, refl, ap, sym, ◌∙◌}
 use mathlib.Core.List.{List, [], ◌∷◌}
-use mathlib.Core.Bool.{Bool, true, false, ◌||◌}
+use mathlib.Core.Bool.{Bool, true, false, ◌&&◌, ◌||◌}
 use native.Mathlib.Omega.{arith}
 use lib.ListN.{length, get_or}
 use lib.Dec.{ltb, leb, eqb}
-use borrow.Author.Tests.{leb-true, leb-false}
+use borrow.Author.Tests.{leb-true, leb-false, lt-leb}
 use Rattle.base.specs.Lists.{All}
 use Rattle.base.specs.Agree.{Agree}
 use Rattle.base.specs.Masked.{Apart, places_of}
 use Rattle.base.specs.Walk.{Visit, go, going_on, walk}
 use Rattle.base.specs.declared.Place.{Place}
-use Rattle.base.proofs.ChoiceLaws.{cond_cases, cond-two}
+use Rattle.base.proofs.ChoiceLaws.{cond_cases, cond-two, and-false}
 use Rattle.base.proofs.MaskedLaws.{apart-append, apart-all, Same, Before, walk_same}
 use Rattle.base.proofs.WalkLaws.{Forward}
 use Rattle.usn_record.specs.Bytes.{le_at}
 use Rattle.usn_record.proofs.ByteLaws.{read-agree}
 use Rattle.mft_attributes.specs.Filename.{replaces, Attribute, other, named, keep, keep_all}
-use Rattle.mft_attributes.specs.Attributes.{end_marker, fixed, attribute_header_at, content_at, is_filename, given, attribute_at, attribute_visit, attributes_in, filename_in}
+use Rattle.mft_attributes.specs.Attributes.{end_marker, fixed, attribute_header_at, Content, content_at, is_filename, given, attribute_at, attribute_visit, attributes_in, filename_in}
 use Rattle.mft_attributes.specs.declared.filename.Filename.{Filename}
-use Rattle.mft_attributes.specs.declared.filename.Kept.{Kept}
-use Rattle.mft_attributes.specs.declared.filename.Kept.TheVariants.{Nothing, Name}
-use Rattle.mft_attributes.proofs.AttributeLaws.{given-past}
 use Rattle.mft_attributes.proofs.LieLaws.{NameLies, given-lies, AttributeShape, ends, passes, visit-shape, visit-forward, attributes-lie}
 
 -- the name of an attribute, and the one that is kept
@@ -33,9 +31,15 @@ abbrev pub name_of : Attribute → List Place
 name_of other = []
 name_of (named f) = f.place ∷ []
 
-abbrev pub kept_name : Kept → List Place
-kept_name Nothing = []
-kept_name (Name f) = f.place ∷ []
+abbrev pub kept_name : Option Filename → List Place
+kept_name None = []
+kept_name (Some f) = f.place ∷ []
+
+-- content that passes its attribute gives no name, whatever it says
+pub given-past : (end attribute_end c : ℕ) (x : Content) → attribute_end < c + fixed + 2 * x.units → other ≡ given end attribute_end c x
+unfolding given
+given-past end attribute_end c x h =
+    simp (and-false (ltb 0 x.units && leb (c + fixed + 2 * x.units) end) (leb (c + fixed + 2 * x.units) attribute_end) (λ _. lt-leb _ _ h))
 
 -- i lies before a name, or past it
 below : (low end : ℕ) (x : Attribute) (i : ℕ) → NameLies low end x → i < low → Apart (name_of x) i
@@ -119,13 +123,13 @@ module _ (e d : List ℕ) (long : length d ≡ length e) where
   attributes-two-runs = walk_same e d name_of (attribute_visit e) (attribute_visit d) forward before reads
 
 -- the name that is kept is one of the names
-keep_apart : (k : Kept) (new : Filename) (i : ℕ) → Apart (kept_name k) i → Apart (new.place ∷ []) i → Apart (kept_name (keep k new)) i
+keep_apart : (k : Option Filename) (new : Filename) (i : ℕ) → Apart (kept_name k) i → Apart (new.place ∷ []) i → Apart (kept_name (keep k new)) i
 unfolding keep
-keep_apart Nothing new i h g = g
-keep_apart (Name old) new i h g =
-    cond_cases (λ (x : Kept). Apart (kept_name x) i) (replaces old.namespace new.namespace) (λ _. g) (λ _. h)
+keep_apart None new i h g = g
+keep_apart (Some old) new i h g =
+    cond_cases (λ (x : Option Filename). Apart (kept_name x) i) (replaces old.namespace new.namespace) (λ _. g) (λ _. h)
 
-keep_all-apart : (k : Kept) (xs : List Attribute) (i : ℕ) → Apart (kept_name k) i → Apart (places_of name_of xs) i → Apart (kept_name (keep_all k xs)) i
+keep_all-apart : (k : Option Filename) (xs : List Attribute) (i : ℕ) → Apart (kept_name k) i → Apart (places_of name_of xs) i → Apart (kept_name (keep_all k xs)) i
 keep_all-apart k [] i h g = h
 keep_all-apart k (other ∷ xs) i h g = keep_all-apart k xs i h g
 keep_all-apart k (named f ∷ xs) i h g = keep_all-apart (keep k f) xs i (keep_apart k f i h (g.0, tt)) g.1
@@ -135,4 +139,4 @@ pub filename-two-runs : (e d : List ℕ) → length d ≡ length e → (n a : �
     → filename_in n d a ≡ filename_in n e a
 unfolding filename_in
 filename-two-runs e d long n a m =
-    ap (keep_all Nothing) (attributes-two-runs e d long n a (λ i l h. m i l (keep_all-apart Nothing (attributes_in n e a) i tt h)))
+    ap (keep_all None) (attributes-two-runs e d long n a (λ i l h. m i l (keep_all-apart None (attributes_in n e a) i tt h)))

@@ -1,12 +1,10 @@
 -- The attributes of an MFT entry, one after the other: where the walk ends, and which attribute gives a name.
-use Rattle.std.specs.Prelude.{ℕ, ◌+◌, ◌*◌, List, [], ◌∷◌, Bool, true, cond, ◌&&◌, ◌||◌, length, ltb, leb, eqb}
+use Rattle.std.specs.Prelude.{ℕ, ◌+◌, ◌*◌, List, [], ◌∷◌, Bool, true, cond, ◌&&◌, ◌||◌, length, ltb, leb, eqb, Option, None}
 use Rattle.base.specs.Walk.{Visit, stop, go, walk}
 use Rattle.usn_record.specs.Bytes.{le_at}
 use Rattle.usn_record.specs.Fields.{reference_of}
 use Rattle.mft_attributes.specs.Filename.{Attribute, other, named, keep_all}
 use Rattle.mft_attributes.specs.declared.filename.Filename.{Filename}
-use Rattle.mft_attributes.specs.declared.filename.Kept.{Kept}
-use Rattle.mft_attributes.specs.declared.filename.Kept.TheVariants.{Nothing}
 
 -- the type of a $FILE_NAME attribute, and the mark after the last attribute
 abbrev pub file_name : ℕ
@@ -89,5 +87,5 @@ abbrev pub attributes_in : ℕ → List ℕ → ℕ → List Attribute
 attributes_in n e a = walk (attribute_visit e) n a
 
 -- the name that is kept of these
-unfoldable pub filename_in : ℕ → List ℕ → ℕ → Kept
-filename_in n e a = keep_all Nothing (attributes_in n e a)
+unfoldable pub filename_in : ℕ → List ℕ → ℕ → Option Filename
+filename_in n e a = keep_all None (attributes_in n e a)

@@ -1,8 +1,6 @@
 -- The names of an MFT entry, and which of them is kept.
-use Rattle.std.specs.Prelude.{ℕ, List, [], ◌∷◌, Bool, cond, not, ◌&&◌, ◌||◌, eqb}
+use Rattle.std.specs.Prelude.{ℕ, List, [], ◌∷◌, Bool, cond, not, ◌&&◌, ◌||◌, eqb, Option, Some, None}
 use Rattle.mft_attributes.specs.declared.filename.Filename.{Filename}
-use Rattle.mft_attributes.specs.declared.filename.Kept.{Kept}
-use Rattle.mft_attributes.specs.declared.filename.Kept.TheVariants.{Nothing, Name}
 
 -- the namespaces of a name: Win32, DOS (the short name of 8 and 3 characters), and one name for both
 abbrev pub win32 : ℕ
@@ -24,12 +22,12 @@ pub data Attribute : Type 0 where
   named : Filename → Attribute
 
 -- what is kept after one more name
-unfoldable pub keep : Kept → Filename → Kept
-keep Nothing new = Name new
-keep (Name old) new = cond (replaces old.namespace new.namespace) (Name new) (Name old)
+unfoldable pub keep : Option Filename → Filename → Option Filename
+keep None new = Some new
+keep (Some old) new = cond (replaces old.namespace new.namespace) (Some new) (Some old)
 
 -- what is kept after these attributes
-abbrev pub keep_all : Kept → List Attribute → Kept
+abbrev pub keep_all : Option Filename → List Attribute → Option Filename
 keep_all k [] = k
 keep_all k (other ∷ xs) = keep_all k xs
 keep_all k (named new ∷ xs) = keep_all (keep k new) xs

@@ -12,7 +12,8 @@ const NS_DOS: u8 = 2;
 // One name for both, preferred as well.
 const NS_WIN32_AND_DOS: u8 = 3;
 
-// A name that an attribute gives: its place, the parent directory's reference, and its namespace.
+// A name that an attribute gives: its place, the parent directory's reference, and its namespace, which is any byte, of which these three
+// are told apart.
 #[derive(Clone, Copy)]
 pub struct Filename {
     pub place: Place,
@@ -20,14 +21,8 @@ pub struct Filename {
     pub namespace: u8,
 }
 
-// The best name so far.
-#[derive(Clone, Copy)]
-pub enum Kept {
-    Nothing,
-    Name(Filename),
-}
-
 // Whether a name of namespace new replaces one of namespace old.
+#[tactic(auto, unfolding(crate::specs::Filename::replaces))]
 pub(crate) fn dominated(old: u8, new: u8) -> bool
     ensures { result ≡ replaces old new }
 {

@@ -31,8 +31,7 @@ use Rattle.mft_carver.specs.Carve.{entry_bytes, events_at, image_visit, events, 
 use Rattle.mft_carver.specs.Masking.{carved_entries, homes_of, carved_homes}
 use Rattle.mft_carver.specs.declared.MftCarvingStats.{MftCarvingStats}
 use Rattle.mft_attributes.specs.declared.filename.Filename.{Filename}
-use Rattle.mft_attributes.specs.declared.filename.Kept.{Kept}
-use Rattle.mft_attributes.specs.declared.filename.Kept.TheVariants.{Nothing, Name}
+use Rattle.std.specs.Prelude.{Option, Some, None}
 use Rattle.mft_carver.proofs.CallLaws.{outcome-agrees}
 use Rattle.mft_carver.proofs.RunLaws.{visit-forward}
 use Rattle.mft_sectors.proofs.SignatureLaws.{signature-same}
@@ -45,12 +44,12 @@ use Rattle.mft_attributes.proofs.TwoRunLaws.{filename-two-runs}
 pub data Found (st : Settings) (o : ℕ) (e : List ℕ) : List Event → Type 0 where
   none : Found st o e []
   nameless : Found st o e (rejected o ∷ [])
-  named : has_signature e ≡ true → sound e ≡ true → (f : Filename) → Name f ≡ filename_in st.walked (restored e) (le_at 2 e 20) → Found st o e (carved (entry_of o (entry_header_of e) f) ∷ [])
+  named : has_signature e ≡ true → sound e ≡ true → (f : Filename) → Some f ≡ filename_in st.walked (restored e) (le_at 2 e 20) → Found st o e (carved (entry_of o (entry_header_of e) f) ∷ [])
 
-found-kept : (st : Settings) (o : ℕ) (e : List ℕ) → has_signature e ≡ true → sound e ≡ true → (k : Kept) → k ≡ filename_in st.walked (restored e) (le_at 2 e 20)
+found-kept : (st : Settings) (o : ℕ) (e : List ℕ) → has_signature e ≡ true → sound e ≡ true → (k : Option Filename) → k ≡ filename_in st.walked (restored e) (le_at 2 e 20)
     → Found st o e (by_name o (entry_header_of e) k ∷ [])
-found-kept st o e b h Nothing g = nameless
-found-kept st o e b h (Name f) g = named b h f g
+found-kept st o e b h None g = nameless
+found-kept st o e b h (Some f) g = named b h f g
 
 pub found : (st : Settings) (o : ℕ) (e : List ℕ) → Found st o e (events_at st o e)
 unfolding judged
@@ -68,7 +67,7 @@ homes_in st s (rejected o) = []
 homes_in st s (carved x) = homes_of st s x
 
 -- the name of a carved entry lies past its first attribute's offset, and inside
-pub name-lies : (st : Settings) (e : List ℕ) {f : Filename} → Name f ≡ filename_in st.walked (restored e) (le_at 2 e 20) → FilenameLies (le_at 2 e 20 + fixed) (length e) f
+pub name-lies : (st : Settings) (e : List ℕ) {f : Filename} → Some f ≡ filename_in st.walked (restored e) (le_at 2 e 20) → FilenameLies (le_at 2 e 20 + fixed) (length e) f
 name-lies st e {f} g =
     let l : FilenameLies (le_at 2 e 20 + fixed) (length (restored e)) f = found-lies st.walked (restored e) (le_at 2 e 20) g refl in
     rw length-restored at l

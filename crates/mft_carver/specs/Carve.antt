@@ -9,8 +9,6 @@ use Rattle.mft_sectors.specs.Signature.{has_signature}
 use Rattle.mft_carver.specs.declared.Settings.{Settings}
 use Rattle.mft_carver.specs.Entry.{Event, rejected, carved, judged}
 use Rattle.mft_carver.specs.declared.CarvedMftEntry.{CarvedMftEntry}
-use Rattle.mft_carver.specs.declared.MftCarving.{MftCarving}
-use Rattle.mft_carver.specs.declared.MftCarving.TheVariants.{Carved, Refused}
 use Rattle.mft_carver.specs.declared.MftCarvingStats.{MftCarvingStats}
 
 -- the bytes of the entry at o, as stored
@@ -95,8 +93,3 @@ carving st s words =
 -- what the lent list l holds after that call
 abbrev pub carving_list : Settings → List ℕ → List ℕ → List ℕ
 carving_list st s l = list_after (λ _. flatten entry_words (entries_in st s)) (carving st s (length l)) l
-
--- what the call's answer says
-abbrev pub outcome : MftCarving → Outcome MftCarvingStats
-outcome (Carved stats) = answered stats
-outcome (Refused n) = refused n

@@ -1,5 +1,5 @@
 -- One MFT entry: its header, and what becomes of it.
-use Rattle.std.specs.Prelude.{ℕ, ◌/◌, ◌%◌, List, Bool, cond, ◌||◌, ltb, eqb}
+use Rattle.std.specs.Prelude.{ℕ, ◌/◌, ◌%◌, List, Bool, cond, ◌||◌, ltb, eqb, Option, Some, None}
 use Rattle.base.specs.Places.{place_from}
 use Rattle.usn_record.specs.Bytes.{le_at}
 use Rattle.mft_carver.specs.declared.Settings.{Settings}
@@ -7,8 +7,6 @@ use Rattle.mft_sectors.specs.SectorEnds.{sound, restored}
 use Rattle.mft_attributes.specs.Attributes.{filename_in}
 use Rattle.mft_carver.specs.declared.CarvedMftEntry.{CarvedMftEntry}
 use Rattle.mft_attributes.specs.declared.filename.Filename.{Filename}
-use Rattle.mft_attributes.specs.declared.filename.Kept.{Kept}
-use Rattle.mft_attributes.specs.declared.filename.Kept.TheVariants.{Nothing, Name}
 
 -- an entry's header
 pub record EntryHeader : Type 0 where
@@ -52,9 +50,9 @@ pub data Event : Type 0 where
   carved : CarvedMftEntry → Event
 
 -- a candidate without a name is rejected
-abbrev pub by_name : ℕ → EntryHeader → Kept → Event
-by_name o h Nothing = rejected o
-by_name o h (Name f) = carved (entry_of o h f)
+abbrev pub by_name : ℕ → EntryHeader → Option Filename → Event
+by_name o h None = rejected o
+by_name o h (Some f) = carved (entry_of o h f)
 
 -- what becomes of the candidate e, which stands at o of an image: with a good header and a sound array its name is that of the restored entry
 unfoldable pub judged : Settings → ℕ → List ℕ → Event

@@ -1,20 +1,30 @@
 -- What the answers of the inner functions say.
-use Rattle.std.specs.Prelude.{ℕ, [], ◌∷◌}
+use Rattle.std.specs.Prelude.{ℕ, [], ◌∷◌, Bool, true, false, Option, Some, None}
 use Rattle.base.specs.Walk.{Visit, stop, go}
 use Rattle.mft_carver.specs.Entry.{Event, rejected, carved}
-use Rattle.mft_carver.specs.declared.entry.Candidate.{Candidate}
-use Rattle.mft_carver.specs.declared.entry.Candidate.TheVariants.{Rejected as RejectedCandidate, Carved as CarvedCandidate}
+use Rattle.mft_carver.specs.declared.CarvedMftEntry.{CarvedMftEntry}
+use Rattle.mft_carver.specs.declared.step.Candidate.{Candidate}
+use Rattle.mft_carver.specs.declared.step.Candidate.TheVariants.{Rejected, Carved}
 use Rattle.mft_carver.specs.declared.step.CarveStep.{CarveStep}
-use Rattle.mft_carver.specs.declared.step.CarveStep.TheVariants.{Stop, Move, Rejected, Carved}
+use Rattle.mft_carver.specs.declared.step.CarveStep.TheVariants.{Stop, Move, Met}
 
 -- what became of the candidate at o
-abbrev pub event_of : ℕ → Candidate → Event
-event_of o RejectedCandidate = rejected o
-event_of o (CarvedCandidate x) = carved x
+abbrev pub event_of : ℕ → Option CarvedMftEntry → Event
+event_of o None = rejected o
+event_of o (Some x) = carved x
 
--- a step at o of an image as a visit
-abbrev pub image_visit_of : ℕ → CarveStep → Visit Event
-image_visit_of o Stop = stop
-image_visit_of o (Move p) = go [] p
-image_visit_of o (Rejected p) = go (rejected o ∷ []) p
-image_visit_of o (Carved x p) = go (carved x ∷ []) p
+-- a candidate as an event
+abbrev pub event_by : Candidate → Event
+event_by (Rejected o) = rejected o
+event_by (Carved x) = carved x
+
+-- whether an event is of a carved entry
+abbrev pub is_carved : Event → Bool
+is_carved (rejected o) = false
+is_carved (carved x) = true
+
+-- a step as a visit
+abbrev pub image_visit_of : CarveStep → Visit Event
+image_visit_of Stop = stop
+image_visit_of (Move p) = go [] p
+image_visit_of (Met c p) = go (event_by c ∷ []) p

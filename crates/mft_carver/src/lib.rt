@@ -4,16 +4,20 @@
 // Every function here is proved. The call has no `requires`: any image and any list get an answer.
 #![tactic(auto)]
 
+mod candidates;
 mod entry;
-mod fill;
+mod image;
+pub mod rows;
 mod step;
 
 ghost use Rattle.std.specs.Prelude.{◌≤◌};
 ghost use Rattle.mft_carver.specs.Settings.{standard};
 ghost use Rattle.mft_carver.specs.Promise.{CarvePromise};
 
-use crate::fill::{carve_through, has_room};
-use base::{ABOVE_DOMAIN, DOMAIN, LIST_FULL, Place};
+use crate::candidates::{fill_list, has_room};
+use crate::image::Image;
+use base::refusal::Refusal;
+use base::{DOMAIN, Place};
 
 // The bytes of an MFT entry.
 const MFT_ENTRY_SIZE: usize = 1024;
@@ -66,19 +70,12 @@ pub struct MftCarvingStats {
     pub rejected: u64,
 }
 
-// What carving answers: its counters, or a refusal's number.
-#[derive(Clone, Copy)]
-pub enum MftCarving {
-    Carved(MftCarvingStats),
-    Refused(u32),
-}
-
 // The entries found at each 1024th byte that have the signature, a good header, a sound update sequence array and a name. The ends of
 // the sectors are restored first: parent and name are those of the restored entry. Nine words each go to the front of the list: offset,
 // entry number, sequence, the name's offset and its length in bytes, the parent's entry and sequence, and 1 or 0 for a directory and for
 // in use. The words after them are left alone.
 // Refused, with nothing written: 1 the image is above the domain, 5 there are more entries than the list has room for.
-pub fn carve_mft_entries(image: &[u8], list: &mut [u64]) -> MftCarving
+pub fn carve_mft_entries(image: &[u8], list: &mut [u64]) -> Result<MftCarvingStats, Refusal>
     ensures { CarvePromise standard image list result }
 {
     let standard = Settings {
@@ -91,16 +88,20 @@ pub fn carve_mft_entries(image: &[u8], list: &mut [u64]) -> MftCarving
 }
 
 // Carving with any limits, of entries of any size above 0.
-fn carve(image: &[u8], list: &mut [u64], settings: Settings) -> MftCarving
+#[tactic(auto, unfolding(crate::specs::Carve::carving))]
+fn carve(image: &[u8], list: &mut [u64], settings: Settings) -> Result<MftCarvingStats, Refusal>
     requires { 1 ≤ settings.size }
     ensures { CarvePromise settings image list result }
 {
     if DOMAIN < image.len() {
-        return MftCarving::Refused(ABOVE_DOMAIN);
+        return Err(Refusal::AboveDomain);
     }
-    if has_room(image, list.len() / ENTRY_WORDS, settings) {
-        MftCarving::Carved(carve_through(image, list, settings, true))
-    } else {
-        MftCarving::Refused(LIST_FULL)
+    let within = Image {
+        bytes: image,
+        settings,
+    };
+    if !has_room(within, list.len() / ENTRY_WORDS) {
+        return Err(Refusal::ListFull);
     }
+    Ok(fill_list(within, list))
 }

@@ -1,5 +1,5 @@
 pub mod SectorLaws
 pub mod SignatureLaws
 pub mod HomeLaws
+pub mod ReadLaws
 pub mod StoredLaws
-pub mod CopyLaws

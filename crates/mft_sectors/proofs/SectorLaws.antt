@@ -1,16 +1,18 @@
 -- The ends of an entry's sectors: the ways out of the array's tests, reads of the restored entry, and the homes of its bytes. Assumes nothing.
 use Prim.Native.Nat.{ℕ, zero, suc, ◌+◌, ◌-◌, ◌*◌, ◌/◌, ◌%◌, ◌≤◌, ◌<◌}
 use mathlib.Core.Path.{◌≡◌, refl, ap, sym, ◌∙◌}
-use mathlib.Core.List.{List}
+use mathlib.Core.List.{List, [], ◌∷◌, ◌++◌}
 use mathlib.Core.Bool.{Bool, true, false, ◌&&◌}
 use native.Mathlib.Omega.{arith}
 use native.Mathlib.Nat.{zero-add}
 use lib.ListN.{length, get_or, get_or-eq_default}
 use lib.Seq.{ext_get_or}
 use lib.Dec.{ltb, leb, eqb}
-use borrow.Author.Tests.{ltb-true, ltb-false, leb-true, eqb-true, lt-ltb, le-ltb, le-leb, lt-leb, eq-eqb, ne_eqb}
+use Rattle.std.specs.List.{range_with_len, list_all}
+use Rattle.std.proofs.lemmas.List.Folds.{list_all-append}
+use borrow.Author.Tests.{ltb-true, ltb-false, leb-true, eqb-true, lt-ltb, le-ltb, le-leb, eq-eqb}
 use Rattle.base.specs.Agree.{Agree}
-use Rattle.base.proofs.ChoiceLaws.{and_left, and_right, and-false}
+use Rattle.base.proofs.ChoiceLaws.{and_left, and_right}
 use Rattle.base.proofs.RowLaws.{length-rows, rows_at}
 use Rattle.usn_record.specs.Bytes.{le_at}
 use Rattle.usn_record.proofs.ByteLaws.{read-agree, read_byte, read_past}
@@ -54,61 +56,23 @@ unfolding sound
 says-sound e s =
     simp (eq-eqb _ _ s.numbers, eq-eqb _ _ s.even, le-leb _ _ s.begins, le-leb _ _ s.before, le-leb _ _ s.inside, s.ends)
 
--- the ways out of the tests, with count, array and first as they were read
-module _ (e : List ℕ) {count : ℕ} (f : count ≡ le_at 2 e 6) where
-  pub other-count : (count ≡ length e / sector + 1 → ⊥) → false ≡ sound e
-  unfolding sound
-  other-count h = simp (sym f, ne_eqb _ _ h)
+and-true : (b : Bool) → (b && true) ≡ b
+and-true true = refl
+and-true false = refl
 
-  module _ (i : count ≡ length e / sector + 1) {array : ℕ} (g : array ≡ le_at 2 e 4) where
-    pub odd-offset : (array % 2 ≡ 0 → ⊥) → false ≡ sound e
-    unfolding sound
-    odd-offset h = simp (sym f, eq-eqb _ _ i, sym g, ne_eqb _ _ h)
+range_more : (a n : ℕ) → range_with_len a (suc n) ≡ range_with_len a n ++ ((a + n) ∷ [])
+range_more a zero = let z : a + 0 ≡ a = omega arith in rw z
+range_more a (suc n) = let z : a + 1 + n ≡ a + suc n = omega arith in ap (λ (xs : List ℕ). a ∷ xs) (rw z at (range_more (a + 1) n))
 
-    module _ (j : array % 2 ≡ 0) where
-      pub offset-below : array < 48 → false ≡ sound e
-      unfolding sound
-      offset-below h = simp (sym f, eq-eqb _ _ i, sym g, eq-eqb _ _ j, lt-leb _ _ h)
-
-      module _ (k : 48 ≤ array) {first : ℕ} (l : first ≡ le_at 2 e 20) where
-        pub past_first : first < array + 2 * count → false ≡ sound e
-        unfolding sound
-        past_first h = simp (sym f, eq-eqb _ _ i, sym g, eq-eqb _ _ j, le-leb _ _ k, sym l, lt-leb _ _ h)
-
-        module _ (m : array + 2 * count ≤ first) where
-          pub past-body : body < array + 2 * count → false ≡ sound e
-          unfolding sound
-          past-body h = simp (sym f, eq-eqb _ _ i, sym g, eq-eqb _ _ j, le-leb _ _ k, sym l, le-leb _ _ m, lt-leb _ _ h)
-
-          pub by-ends : array + 2 * count ≤ body → {value : ℕ} → value ≡ le_at 2 e array → {r : Bool} → r ≡ ending (length e / sector) value e → r ≡ sound e
-          unfolding sound
-          by-ends h p q = q ∙ simp (sym f, eq-eqb _ _ i, sym g, eq-eqb _ _ j, le-leb _ _ k, sym l, le-leb _ _ m, le-leb _ _ h, sym p)
-
--- the loop over the sectors, from the last: where sector k ends with the value, those before it decide
-pub ending-next : (k value : ℕ) (e : List ℕ) {x : ℕ} → 0 < k → x ≡ le_at 2 e (sector * (k - 1) + body) → x ≡ value → ending k value e ≡ ending (k - 1) value e
+-- a test of each of the first n sectors in turn
+pub ending-all : (n value : ℕ) (e : List ℕ) → list_all (λ k. eqb (le_at 2 e (sector * k + body)) value) (range_with_len 0 n) ≡ ending n value e
 unfolding ending
-ending-next zero value e h f g = absurd (omega arith)
-ending-next (suc k) value e h f g =
-    let z : suc k - 1 ≡ k = omega arith in
-    let q : le_at 2 e (sector * k + body) ≡ value = sym (rw z at f) ∙ g in
-    rw z (simp (eq-eqb _ _ q) (sym (and-true (ending k value e))))
-  where
-    and-true : (b : Bool) → b ≡ (b && true)
-    and-true true = refl
-    and-true false = refl
-
-pub ending-none : (k value : ℕ) (e : List ℕ) → k ≤ 0 → true ≡ ending k value e
-unfolding ending
-ending-none zero value e h = refl
-ending-none (suc k) value e h = absurd (omega arith)
-
-pub ending-not : (k value : ℕ) (e : List ℕ) {x : ℕ} → 0 < k → x ≡ le_at 2 e (sector * (k - 1) + body) → (x ≡ value → ⊥) → ending k value e ≡ false
-unfolding ending
-ending-not zero value e h f g = absurd (omega arith)
-ending-not (suc k) value e h f g =
-    let z : suc k - 1 ≡ k = omega arith in
-    let p = rw z at f in
-    and-false (ending k value e) (eqb (le_at 2 e (sector * k + body)) value) (λ _. ne_eqb _ _ (λ q. g (p ∙ q)))
+ending-all zero value e = refl
+ending-all (suc n) value e =
+    let test : ℕ → Bool = λ k. eqb (le_at 2 e (sector * k + body)) value in
+    ap (list_all test) (range_more 0 n)
+    ∙ list_all-append test (range_with_len 0 n) ((0 + n) ∷ [])
+    ∙ rw (ending-all n value e, zero-add n) (ap (λ (b : Bool). ending n value e && b) (and-true (test n)))
 
 -- a byte of the body is at home where it stands; the end of a sector is in the array
 pub home-body : (a i : ℕ) → i % sector < body → home a i ≡ i

@@ -2,59 +2,33 @@
 -- end is read as it is, and that a byte which is restored is the image's at its home. Assumes nothing.
 use Prim.Native.Nat.{ℕ, zero, suc, ◌+◌, ◌-◌, ◌*◌, ◌/◌, ◌%◌, ◌≤◌, ◌<◌}
 use mathlib.Core.Path.{◌≡◌, refl, ap, sym, ◌∙◌}
-use mathlib.Core.List.{List}
-use mathlib.Core.Bool.{Bool, true, false, not, ◌&&◌}
+use mathlib.Core.List.{List, ◌++◌}
+use mathlib.Core.Bool.{Bool, true, false, ◌&&◌}
 use native.Mathlib.Omega.{arith}
 use native.Mathlib.Nat.{div-mul-le_self, suc-mul, zero-mul}
+use Rattle.std.proofs.lemmas.List.{length-take-le}
+use lib.Seq.{ext_get_or}
 use lib.ListN.{length, get_or, take, drop, get_or-eq_default}
 use lib.Dec.{ltb, leb}
-use borrow.Author.Tests.{ltb-true, ltb-false, leb-true, le-leb, lt-leb, not-true, not-false}
+use borrow.Author.Tests.{ltb-true, ltb-false, leb-true}
+use Rattle.base.specs.Lists.{overwrite}
 use Rattle.base.specs.Places.{part}
 use Rattle.base.specs.declared.Place.{Place}
 use Rattle.base.proofs.AgreeLaws.{part_in, part_out, part_length, part-lent, part_same}
 use Rattle.base.proofs.ChoiceLaws.{cond_cases, and_left, and_right}
+use Rattle.usn_record.specs.Bytes.{le_at}
 use Rattle.mft_sectors.specs.Signature.{has_signature}
 use Rattle.mft_sectors.specs.SectorEnds.{sector, body, array_of, sound, home, restored_by, restored}
 use Rattle.mft_sectors.specs.Stored.{entry_start, entry_around, in_entry, image_bytes}
-use Rattle.mft_sectors.proofs.SectorLaws.{sound-says, home-body, length-restored, restored_at, home-inside}
+use Rattle.mft_sectors.proofs.SectorLaws.{sound-says, byte-is, home-body, length-restored, restored_at, home-inside}
 
 -- the entry begins at or before the place
 pub start-before : (size i : ℕ) → entry_start size i ≤ i
 start-before size i = div-mul-le_self i size
 
--- the ways out of the test, by the tests that led to them
-module _ (size : ℕ) (s : List ℕ) (p : Place) where
-  abbrev start : ℕ
-  start = entry_start size p.offset
-
-  -- the entry there, as code lends it
-  abbrev lent : List ℕ
-  lent = take (start + size - start) (drop start s)
-
-  lent-entry : lent ≡ entry_around size s p
-  lent-entry = part-lent s start size
-
-  pub past-image : p.offset / size * size ≤ length s → length s - p.offset / size * size < size → false ≡ in_entry size s p
-  unfolding in_entry
-  past-image k h = let l : length s < p.offset / size * size + size = omega arith in simp (lt-leb _ _ l)
-
-  module _ (whole : start + size ≤ length s) where
-    pub past-entry : start + size < p.offset + p.length → false ≡ in_entry size s p
-    unfolding in_entry
-    past-entry h = simp (le-leb _ _ whole, lt-leb _ _ h)
-
-    module _ (ends : p.offset + p.length ≤ start + size) {b : Bool} (f : b ≡ has_signature lent) where
-      pub no-signature : not b ≡ true → false ≡ in_entry size s p
-      unfolding in_entry
-      no-signature h =
-          let g : has_signature (entry_around size s p) ≡ false = ap has_signature (sym lent-entry) ∙ sym f ∙ not-true _ h in
-          simp (le-leb _ _ whole, le-leb _ _ ends, g)
-
-      pub by-array : not b ≡ false → {r : Bool} → r ≡ sound lent → r ≡ in_entry size s p
-      unfolding in_entry
-      by-array h k =
-          let g : has_signature (entry_around size s p) ≡ true = ap has_signature (sym lent-entry) ∙ sym f ∙ not-false _ h in
-          k ∙ ap sound lent-entry ∙ simp (le-leb _ _ whole, le-leb _ _ ends, g)
+-- the entry around a place, as code lends it
+abbrev lent : ℕ → List ℕ → Place → List ℕ
+lent size s p = take (entry_start size p.offset + size - entry_start size p.offset) (drop (entry_start size p.offset) s)
 
 -- what a place in an entry says
 pub record Inside (size : ℕ) (s : List ℕ) (p : Place) : Type 0 where
@@ -115,15 +89,6 @@ module _ (size : ℕ) (s : List ℕ) (p : Place) (h : in_entry size s p ≡ true
       ∙ part_in (restored e) (p.offset - o) p.length i u
       ∙ restored_at a e (p.offset - o + i) k
       ∙ part_in s o size (home a (p.offset - o + i)) (omega (arith, home-inside e (rw entry-long sectors) (sound-says e q.array) (p.offset - o + i) k, entry-long))
-
--- how many bytes there are for a place inside the image
-pub image-bytes : (size : ℕ) (s : List ℕ) (p : Place) → p.offset + p.length ≤ length s → length (image_bytes size s p) ≡ p.length
-unfolding image_bytes
-image-bytes size s p l = by (in_entry size s p) refl
-  where
-    by : (b : Bool) → in_entry size s p ≡ b → length (image_bytes size s p) ≡ p.length
-    by true h = entry-bytes size s p h
-    by false h = simp h (part_length s p.offset p.length l)
 
 -- a place that lies in no entry is read as it is
 pub as-stored : (size : ℕ) (s : List ℕ) (p : Place) → in_entry size s p ≡ false → image_bytes size s p ≡ part s p.offset p.length
@@ -192,3 +157,22 @@ image-bytes-small size s p h =
     cond_cases Bytes (in_entry size s p)
     (λ _. part_small (restored e) (p.offset - o) p.length (restored-small (array_of e).offset e (part_small s o size h)))
     (λ _. part_small s p.offset p.length h)
+
+-- what a copy of so many bytes of s leaves at the front of a lent list, by each byte
+pub copied : (s : List ℕ) (from count : ℕ) (l xs : List ℕ) {n : ℕ} → from + count ≤ length s → count ≤ length l → length xs ≡ length (take count l)
+    → length (take count l) ≤ n → ((j : ℕ) → j < n → get_or xs j 0 ≡ le_at 1 s (from + j)) → xs ++ drop count l ≡ overwrite l (part s from count)
+copied s from count l xs h k f i g =
+    let n : length (take count l) ≡ count = length-take-le count l k in
+    let m : length (part s from count) ≡ count = part_length s from count h in
+    let q : xs ≡ part s from count =
+    ext_get_or 0 xs (part s from count) (f ∙ n ∙ sym m) (λ j u. g j (omega arith) ∙ byte-is s (from + j) ∙ sym (part_in s from count j (omega arith))) in
+    rw (q, m)
+
+-- a place in an entry, which code lends: it ends inside, and what is copied is what the place is decoded from
+module _ (size : ℕ) (s : List ℕ) (p : Place) (h : in_entry size s p ≡ true) where
+  pub ends-lent : {r : List ℕ} → r ≡ restored (lent size s p) → p.offset - entry_start size p.offset + p.length ≤ length r
+  ends-lent f = rw (f, length-restored, part-lent s (entry_start size p.offset) size) (ends-in size s p h)
+
+  pub restored-put : (l : List ℕ) {m r : List ℕ} → r ≡ restored (lent size s p)
+      → m ≡ overwrite l (part r (p.offset - entry_start size p.offset) p.length) → m ≡ overwrite l (image_bytes size s p)
+  restored-put l f g = rw (from-entry size s p h) (rw (f, part-lent s (entry_start size p.offset) size) at g)

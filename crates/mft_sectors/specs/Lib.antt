@@ -2,3 +2,4 @@ pub mod Signature
 pub mod SectorEnds
 pub mod Homes
 pub mod Stored
+pub mod Restored

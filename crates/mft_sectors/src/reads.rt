@@ -1,111 +1,110 @@
-// Reads of a restored entry, whose update sequence array stands at `array`. Nothing is copied: a read that meets no sector's end is
-// one of the entry as it is stored. Most reads end before the first sector's end, and these have one test more than a plain read.
-ghost use Rattle.std.specs.Prelude.{◌≡◌};
+// Reads of a restored entry: the entry with the true bytes at the ends of its sectors. Nothing is copied: a read that meets no sector's
+// end is one of the entry as it is stored.
+ghost use Rattle.std.specs.Prelude.{◌≡◌, ◌^◌, ◌%◌, ◌≤◌, ◌<◌, length};
 ghost use Rattle.usn_record.specs.Bytes.{le_at};
-ghost use Rattle.mft_sectors.specs.SectorEnds.{restored_by};
+ghost use Rattle.mft_sectors.specs.SectorEnds.{restored};
+ghost use Rattle.mft_sectors.specs.Restored.{bytes_of, length_of};
 
 use crate::sound::{BODY, SECTOR};
 use usn_record::bytes::{byte_at, le_u16, le_u32, le_u64};
 
-pub fn restored_byte(entry: &[u8], array: u16, offset: usize) -> u8
-    ensures { result ≡ le_at 1 (restored_by array entry.now) offset }
-{
-    if offset < BODY {
-        return byte_at(entry, offset);
-    }
-    later_byte(entry, array, offset)
+// An entry, as it is stored, and where its update sequence array stands.
+#[derive(Clone, Copy)]
+pub struct Restored<'a> {
+    pub stored: &'a [u8],
+    pub array: u16,
 }
 
-pub fn restored_u16(entry: &[u8], array: u16, offset: usize) -> u16
-    ensures { result ≡ le_at 2 (restored_by array entry.now) offset }
-{
-    if offset <= BODY - 2 {
-        return le_u16(entry, offset);
+impl<'a> Restored<'a> {
+    // The entry with the array that its header gives.
+    pub fn of(entry: &'a [u8]) -> Self
+        ensures { bytes_of result ≡ restored entry.now }
+    {
+        Restored {
+            stored: entry,
+            array: le_u16(entry, 4),
+        }
     }
-    later_u16(entry, array, offset)
-}
 
-pub fn restored_u32(entry: &[u8], array: u16, offset: usize) -> u32
-    ensures { result ≡ le_at 4 (restored_by array entry.now) offset }
-{
-    if offset <= BODY - 4 {
-        return le_u32(entry, offset);
+    pub fn len(&self) -> usize
+        ensures value { result ≡ length (bytes_of self.now) }
+        ensures stored { result ≡ length_of self.now }
+    {
+        self.stored.len()
     }
-    later_u32(entry, array, offset)
-}
 
-pub fn restored_u64(entry: &[u8], array: u16, offset: usize) -> u64
-    ensures { result ≡ le_at 8 (restored_by array entry.now) offset }
-{
-    if offset <= BODY - 8 {
-        return le_u64(entry, offset);
+    pub fn byte(&self, offset: usize) -> u8
+        ensures { result ≡ le_at 1 (bytes_of self.now) offset }
+    {
+        if offset % SECTOR < BODY {
+            return byte_at(self.stored, offset);
+        }
+        self.end(offset)
     }
-    later_u64(entry, array, offset)
-}
 
-// The same reads wherever they are: one that meets a sector's end is put together from halves, and a byte there is read at its home. They
-// stand apart, and have several callers each, so that the compiler keeps them out of the ones above.
-fn later_byte(entry: &[u8], array: u16, offset: usize) -> u8
-    ensures { result ≡ le_at 1 (restored_by array entry.now) offset }
-{
-    if entry.len() <= offset {
-        return 0;
+    // The reads of two, four and eight bytes are three functions: one for all of them would want a trait with each width, its plain read and
+    // its cast, which is longer.
+    pub fn u16_at(&self, offset: usize) -> u16
+        ensures { result ≡ le_at 2 (bytes_of self.now) offset }
+    {
+        if offset % SECTOR <= BODY - 2 {
+            return le_u16(self.stored, offset);
+        }
+        self.across(offset, 2) as u16
     }
-    let at = offset % SECTOR;
-    if at < BODY {
-        return byte_at(entry, offset);
-    }
-    let home = (array as usize) + 2 * (offset / SECTOR + 1) + (at - BODY);
-    byte_at(entry, home)
-}
 
-fn later_u16(entry: &[u8], array: u16, offset: usize) -> u16
-    ensures { result ≡ le_at 2 (restored_by array entry.now) offset }
-{
-    if offset % SECTOR <= BODY - 2 {
-        return le_u16(entry, offset);
+    pub fn u32_at(&self, offset: usize) -> u32
+        ensures { result ≡ le_at 4 (bytes_of self.now) offset }
+    {
+        if offset % SECTOR <= BODY - 4 {
+            return le_u32(self.stored, offset);
+        }
+        self.across(offset, 4) as u32
     }
-    let n = entry.len();
-    if n < 2 {
-        return 0;
-    }
-    if n - 2 < offset {
-        return 0;
-    }
-    (later_byte(entry, array, offset) as u16)
-        + (later_byte(entry, array, offset + 1) as u16) * 0x100
-}
 
-fn later_u32(entry: &[u8], array: u16, offset: usize) -> u32
-    ensures { result ≡ le_at 4 (restored_by array entry.now) offset }
-{
-    if offset % SECTOR <= BODY - 4 {
-        return le_u32(entry, offset);
+    pub fn u64_at(&self, offset: usize) -> u64
+        ensures { result ≡ le_at 8 (bytes_of self.now) offset }
+    {
+        if offset % SECTOR <= BODY - 8 {
+            return le_u64(self.stored, offset);
+        }
+        self.across(offset, 8)
     }
-    let n = entry.len();
-    if n < 4 {
-        return 0;
-    }
-    if n - 4 < offset {
-        return 0;
-    }
-    (later_u16(entry, array, offset) as u32)
-        + (later_u16(entry, array, offset + 2) as u32) * 0x1_0000
-}
 
-fn later_u64(entry: &[u8], array: u16, offset: usize) -> u64
-    ensures { result ≡ le_at 8 (restored_by array entry.now) offset }
-{
-    if offset % SECTOR <= BODY - 8 {
-        return le_u64(entry, offset);
+    // A byte of a sector's end, which is read at its home. This and the next are seldom called, and take the struct by value, so that the
+    // compiler keeps its fields in registers for the reads above.
+    #[cold]
+    #[inline(never)]
+    fn end(self, offset: usize) -> u8
+        requires { 510 ≤ offset % 512 }
+        ensures { result ≡ le_at 1 (bytes_of self.entry) offset }
+    {
+        if self.stored.len() <= offset {
+            return 0;
+        }
+        let home = (self.array as usize) + 2 * (offset / SECTOR + 1) + (offset % SECTOR - BODY);
+        byte_at(self.stored, home)
     }
-    let n = entry.len();
-    if n < 8 {
-        return 0;
+
+    // The number of so many bytes wherever they are, byte by byte from the last.
+    #[cold]
+    #[inline(never)]
+    fn across(self, offset: usize, width: usize) -> u64
+        requires { width ≤ 8 }
+        ensures value { result ≡ le_at width (bytes_of self.entry) offset }
+        ensures bound { result < 256 ^ width }
+    {
+        let end = self.len();
+        if end < width {
+            return 0;
+        }
+        if end - width < offset {
+            return 0;
+        }
+        let mut number = 0;
+        for k in (0..width).rev() {
+            number = number * 0x100 + self.byte(offset + k) as u64;
+        }
+        number
     }
-    if n - 8 < offset {
-        return 0;
-    }
-    (later_u32(entry, array, offset) as u64)
-        + (later_u32(entry, array, offset + 4) as u64) * 0x1_0000_0000
 }

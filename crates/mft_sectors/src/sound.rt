@@ -13,6 +13,7 @@ const ARRAY_LOW: usize = 48;
 
 // Whether the array has a number for each sector and one more, lies at an even offset of 48 or more, before the first attribute and
 // before the first sector's end, and every sector ends with its first number.
+#[tactic(auto, unfolding(crate::specs::SectorEnds::sound))]
 pub fn is_sound(entry: &[u8]) -> bool
     ensures { result ≡ sound entry.now }
 {
@@ -42,13 +43,5 @@ pub fn is_sound(entry: &[u8]) -> bool
 fn all_end(entry: &[u8], value: u16) -> bool
     ensures { result ≡ ending (length entry.now / sector) value entry.now }
 {
-    let mut k = entry.len() / SECTOR;
-    while 0 < k {
-        let end = SECTOR * (k - 1) + BODY;
-        if le_u16(entry, end) != value {
-            return false;
-        }
-        k -= 1;
-    }
-    true
+    (0..entry.len() / SECTOR).all(|k| le_u16(entry, SECTOR * k + BODY) == value)
 }

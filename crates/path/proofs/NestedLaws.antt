@@ -22,8 +22,8 @@ use Rattle.entry_slots.specs.Slots.{same_key, key_at, info_at, slot_name, find_f
 use Rattle.entry_slots.specs.declared.EntryKey.{EntryKey}
 use Rattle.entry_slots.specs.declared.EntryInfo.{EntryInfo}
 use Rattle.entry_slots.specs.declared.NamePlace.{NamePlace}
-use Rattle.entry_slots.specs.declared.slots.Found.TheVariants.{At}
-use Rattle.entry_slots.proofs.FindLaws.{other-entry, same_self}
+use Rattle.std.specs.Prelude.{Some}
+use Rattle.entry_slots.proofs.FindLaws.{same_self}
 use Rattle.chain.specs.declared.ChainEnd.TheVariants.{Root, Unresolved}
 use Rattle.chain.specs.Chain.{Chain, bare, under, is_root, chain}
 use Rattle.chain.proofs.CallLaws.{traced}
@@ -69,16 +69,21 @@ module _ (e n j : ℕ) (h : j < n) where
       let t : get_or (nested e n) (j * 7 + 4 + 2) 0 ≡ 2 = word 6 _ (omega arith) (omega arith) in
       λ z. record { parent = record { entry = p z; sequence = q z }; name = record { source = r z; offset = s z; length = t z } }
 
+-- keys of other entries are not the same
+other-entry : (a b : EntryKey) → (a.entry ≡ b.entry → ⊥) → false ≡ same_key a b
+unfolding same_key
+other-entry a b h = rw (ne_eqb _ _ h)
+
 -- the key after j others stands in slot j
-find-nested : (e n a m j : ℕ) → a + m ≡ n → a ≤ j → j < n → find_from (nested e n) (key (suc (e + j)) 5) a m ≡ At j
+find-nested : (e n a m j : ℕ) → a + m ≡ n → a ≤ j → j < n → find_from (nested e n) (key (suc (e + j)) 5) a m ≡ Some j
 unfolding find_from
 find-nested e n a zero j z x h = absurd (omega arith)
 find-nested e n a (suc m) j z x h =
-    ap (λ (k : EntryKey). cond (same_key k (key (suc (e + j)) 5)) (At a) (find_from (nested e n) (key (suc (e + j)) 5) (a + 1) m)) (key-nested e n a (omega arith))
+    ap (λ (k : EntryKey). cond (same_key k (key (suc (e + j)) 5)) (Some a) (find_from (nested e n) (key (suc (e + j)) 5) (a + 1) m)) (key-nested e n a (omega arith))
     ∙ go (eqb a j) refl (find-nested e n (a + 1) m j (omega arith))
   where
-    go : (b : Bool) → eqb a j ≡ b → (a + 1 ≤ j → j < n → find_from (nested e n) (key (suc (e + j)) 5) (a + 1) m ≡ At j)
-        → cond (same_key (key (suc (e + a)) 5) (key (suc (e + j)) 5)) (At a) (find_from (nested e n) (key (suc (e + j)) 5) (a + 1) m) ≡ At j
+    go : (b : Bool) → eqb a j ≡ b → (a + 1 ≤ j → j < n → find_from (nested e n) (key (suc (e + j)) 5) (a + 1) m ≡ Some j)
+        → cond (same_key (key (suc (e + a)) 5) (key (suc (e + j)) 5)) (Some a) (find_from (nested e n) (key (suc (e + j)) 5) (a + 1) m) ≡ Some j
     go true y ih = let s : a ≡ j = eqb-true a j y in rw (s, same_self (key (suc (e + j)) 5))
     go false y ih =
         let s : a ≡ j → ⊥ = eqb-false a j y in

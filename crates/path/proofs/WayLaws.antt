@@ -1,10 +1,11 @@
 -- What is known of a way once it is climbed, a path written name by name, and a text that is written only where it has room. Assumes nothing.
 use Prim.Native.Nat.{ℕ, ◌+◌, ◌-◌, ◌*◌, ◌≤◌}
+use Rattle.std.specs.Prelude.{Some, None}
 use mathlib.Core.Path.{◌≡◌, ap, sym, ◌∙◌}
 use mathlib.Core.List.{List, [], ◌++◌}
-use mathlib.Core.Bool.{Bool, true, false, cond}
+use mathlib.Core.Bool.{Bool, true, cond}
 use native.Mathlib.Omega.{arith}
-use borrow.Author.Tests.{leb-true, leb-false, lt-ltb, le-ltb}
+use borrow.Author.Tests.{leb-true, le-ltb}
 use lib.ListN.{length, length-append}
 use lib.Seq.{sets, length-sets}
 use lib.Dec.{leb}
@@ -20,7 +21,6 @@ use Rattle.chain.specs.Promise.{Climbs}
 use Rattle.chain.specs.declared.way.Climbed.{Climbed}
 use Rattle.chain.proofs.WayLaws.{climbed-slots}
 use Rattle.path.specs.Promise.{WayAsks, Behinds}
-use Rattle.path.specs.declared.ways.Behind.TheVariants.{To, Full}
 
 -- the names of a way up a table whose names are inside
 pub climbed-asks : (journal image : List ℕ) (t : Table) (k : EntryKey) {r : Climbed} {way' : List ℕ} → Climbs t k r way'
@@ -42,14 +42,6 @@ pub record WayText (l₀ l : List ℕ) (at to : ℕ) (rest whole : List ℕ) : T
   pub same : length l ≡ length l₀
   pub count : to + length rest ≡ at + length whole
 
-pub way-text-start : (l₀ : List ℕ) (at : ℕ) (front rest : List ℕ) {whole l : List ℕ} {to : ℕ} → whole ≡ front ++ rest → Put l₀ l at to front → WayText l₀ l at to rest whole
-way-text-start l₀ at front rest {whole} {l} {to} e p =
-    record {
-      ends = rw (p.text_after, p.value, e) (sym (sets-append l₀ at front rest));
-      same = ap length p.text_after ∙ length-sets l₀ at front;
-      count = omega (arith, p.value, ap length e, length-append front rest);
-    }
-
 module _ {l₀ l : List ℕ} {at to : ℕ} {rest whole : List ℕ} (w : WayText l₀ l at to rest whole) where
   pub way-text-room : (first more : List ℕ) → rest ≡ first ++ more → at + length whole ≤ length l₀ → to + length first ≤ length l
   way-text-room first more e h = omega (arith, w.count, w.same, ap length e, length-append first more)
@@ -67,18 +59,13 @@ module _ {l₀ l : List ℕ} {at to : ℕ} {rest whole : List ℕ} (w : WayText 
 
 -- a text that has no room for more is left alone, and one that has holds it
 module _ (more text : List ℕ) (at : ℕ) {fits : Bool} (e : fits ≡ leb (length more) (length text - at)) where
-  pub behind-full : fits ≡ false → Behinds more text at Full text
-  behind-full h =
-      let q = lt-ltb (length text - at) (length more) (leb-false _ _ (sym e ∙ h)) in
-      record { answer = sym (ap (λ (b : Bool). cond b Full (To (at + length more))) q); written = sym (ap (λ (b : Bool). cond b text (sets text at more)) q) }
-
   pub behind-room : fits ≡ true → at ≤ length text → at + length more ≤ length text
   behind-room h g = omega (arith, leb-true (length more) (length text - at) (sym e ∙ h))
 
-  pub behind-put : fits ≡ true → {to : ℕ} {x : List ℕ} → Put text x at to more → Behinds more text at (To to) x
+  pub behind-put : fits ≡ true → {to : ℕ} {x : List ℕ} → Put text x at to more → Behinds more text at (Some to) x
   behind-put h p =
       let q = le-ltb (length text - at) (length more) (leb-true _ _ (sym e ∙ h)) in
       record {
-        answer = ap To p.value ∙ sym (ap (λ (b : Bool). cond b Full (To (at + length more))) q);
+        answer = ap Some p.value ∙ sym (ap (λ (b : Bool). cond b None (Some (at + length more))) q);
         written = p.text_after ∙ sym (ap (λ (b : Bool). cond b text (sets text at more)) q);
       }

@@ -3,3 +3,4 @@ pub mod Ways
 pub mod Promise
 pub mod Alike
 pub mod Sample
+pub mod Words

@@ -1,12 +1,10 @@
 -- The outcome of a path with text.
 use Rattle.std.specs.Prelude.{ℕ, List, length}
-use Rattle.base.specs.Outcome.{Outcome, refused, answered}
+use Rattle.base.specs.Outcome.{Outcome}
 use Rattle.entry_slots.specs.Names.{lengths_of}
 use Rattle.entry_slots.specs.Table.{Table}
 use Rattle.entry_slots.specs.declared.EntryKey.{EntryKey}
-use Rattle.chain.specs.declared.ResolvedPath.{ResolvedPath}
-use Rattle.path.specs.declared.PathAnswer.{PathAnswer}
-use Rattle.path.specs.declared.PathAnswer.TheVariants.{Path, Refused}
+pub use Rattle.path.specs.declared.WrittenPath.{WrittenPath}
 use Rattle.chain.specs.Chain.{Chain, resolved}
 use Rattle.chain.specs.Tracing.{tracing}
 use Rattle.path_text.specs.Text.{path_text}
@@ -17,14 +15,5 @@ abbrev pub tracing_with_text : List ℕ → List ℕ → Table → ℕ → Entry
 tracing_with_text journal image t depth k room = with_text (path_text journal image) room (tracing (lengths_of journal image) t depth k)
 
 -- what a path with text says: its names and its end, and how many bytes its text takes
-pub record WrittenPath : Type 0 where
-  pub path : ResolvedPath
-  pub text : ℕ
-
 abbrev pub written_path : List ℕ → List ℕ → Chain → WrittenPath
 written_path journal image c = record { path = resolved c; text = length (path_text journal image c) }
-
--- what the call's answer says
-abbrev pub outcome : PathAnswer → Outcome WrittenPath
-outcome (Path p n) = answered (record { path = p; text = n })
-outcome (Refused n) = refused n

@@ -8,21 +8,22 @@
 #![tactic(auto)]
 
 pub mod ways;
+pub mod words;
 
 ghost use Rattle.path.specs.Promise.{PathPromise};
 
-use crate::ways::{Behind, put_path};
-use base::TEXT_FULL;
+use crate::ways::put_path;
+use base::refusal::Refusal;
 use chain::ResolvedPath;
-use chain::tracing::refusal;
+use chain::tracing::check;
 use chain::way::{WAY_WORDS, climb, list_places, resolved};
 use entry_slots::EntryKey;
 
-// What a path answers: its names and end, and how many bytes its text takes; or a refusal's number.
+// What is told of a path that is written: its names and its end, and how many bytes its text takes.
 #[derive(Clone, Copy)]
-pub enum PathAnswer {
-    Path { path: ResolvedPath, text: usize },
-    Refused(u32),
+pub struct WrittenPath {
+    pub path: ResolvedPath,
+    pub text: usize,
 }
 
 // The path of a key: its places in the lent list, as path_chain leaves them, and its text at the front of the lent text.
@@ -36,22 +37,16 @@ pub fn path(
     key: EntryKey,
     list: &mut [u64],
     text: &mut [u8],
-) -> PathAnswer
+) -> Result<WrittenPath, Refusal>
     ensures { PathPromise journal image slots used key list text result }
 {
-    let n = refusal(journal.len(), image.len(), slots, used);
-    if n != 0 {
-        return PathAnswer::Refused(n);
-    }
+    check(journal.len(), image.len(), slots, used)?;
     let mut way: [usize; WAY_WORDS] = [0; WAY_WORDS];
-    let none = &slots[..0];
-    let up = climb(slots, used, none, none, key, &mut way);
-    match put_path(journal, image, slots, &way, up, text) {
-        Behind::To(n) => {
-            list_places(slots, &way, up.names, list);
-            let path = resolved(up);
-            PathAnswer::Path { path, text: n }
-        }
-        Behind::Full => PathAnswer::Refused(TEXT_FULL),
-    }
+    let up = climb(slots, used, &[], &[], key, &mut way);
+    let Some(length) = put_path(journal, image, slots, &way, up, text) else {
+        return Err(Refusal::TextFull);
+    };
+    list_places(slots, &way, up.names, list);
+    let path = resolved(up);
+    Ok(WrittenPath { path, text: length })
 }

@@ -15,13 +15,6 @@ use entry_slots::NamePlace;
 use entry_slots::slots::info_at;
 use path_text::text::{end_length, place_length, put_end, put_step};
 
-// What becomes of a path that goes behind other text: where the text ends then, or that there is no room for it.
-#[derive(Clone, Copy)]
-pub enum Behind {
-    To(usize),
-    Full,
-}
-
 // Whether the most bytes that a path can take, its end's and three for each unit of its names, are no more than the room.
 fn surely_fits(up: Climbed, room: usize) -> bool
     ensures { result ≡ leb (length (end_text up.end) + up.bound) room }
@@ -52,11 +45,8 @@ fn bytes_fit(
         return false;
     }
     let mut spare = room - ending;
-    let mut left = up.names;
-    while 0 < left {
-        left -= 1;
-        let info = info_at(slots, way[left]);
-        let name = info.name;
+    for left in (0..up.names).rev() {
+        let name = info_at(slots, way[left]).name;
         if (spare as u64) <= name.length / 2 {
             return false;
         }
@@ -134,16 +124,14 @@ fn put_way(
 {
     let end = up.end;
     let mut to = put_end(text, at, end);
-    let mut left = up.names;
-    while 0 < left {
-        left -= 1;
+    for left in (0..up.names).rev() {
         let info = info_at(slots, way[left]);
         to = put_step(journal, image, info.name, text, to);
     }
     to
 }
 
-// A path at the front of a text, where there is room for it. Otherwise nothing is written.
+// A path at the front of a text, where there is room for it: where the text ends then. Otherwise nothing is written.
 pub(crate) fn put_path(
     journal: &[u8],
     image: &[u8],
@@ -151,18 +139,18 @@ pub(crate) fn put_path(
     way: &[usize],
     up: Climbed,
     text: &mut [u8],
-) -> Behind
+) -> Option<usize>
     requires { WayAsks journal.now image.now slots.now way.now up }
     ensures { FrontPromise journal image slots way up text result }
 {
     if !path_fits(journal, image, slots, way, up, text.len()) {
-        return Behind::Full;
+        return None;
     }
-    Behind::To(put_way(journal, image, slots, way, up, text, 0))
+    Some(put_way(journal, image, slots, way, up, text, 0))
 }
 
-// The path of an entry, by its parent's and its own name, behind the first bytes of a text, where there is room for it. Otherwise
-// nothing is written.
+// The path of an entry, by its parent's and its own name, behind the first bytes of a text, where there is room for it: where the
+// text ends then. Otherwise nothing is written.
 pub fn put_behind(
     journal: &[u8],
     image: &[u8],
@@ -172,14 +160,14 @@ pub fn put_behind(
     name: NamePlace,
     text: &mut [u8],
     at: usize,
-) -> Behind
+) -> Option<usize>
     requires way_asks { WayAsks journal.now image.now slots.now way.now up }
     requires name_value { (inside (lengths_of journal.now image.now) name ≡ true) × (at ≤ length text.old) }
     ensures { BehindPromise journal image slots way up name text at result }
 {
     if !entry_fits(journal, image, slots, way, up, name, text.len() - at) {
-        return Behind::Full;
+        return None;
     }
     let above = put_way(journal, image, slots, way, up, text, at);
-    Behind::To(put_step(journal, image, name, text, above))
+    Some(put_step(journal, image, name, text, above))
 }

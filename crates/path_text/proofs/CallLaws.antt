@@ -1,5 +1,6 @@
 -- The ways out of the call, by its tests: the outcome, and what the text then holds. Assumes nothing.
 use Prim.Native.Nat.{ℕ, ◌≤◌, ◌<◌}
+use Rattle.std.specs.Prelude.{Result, Ok, Err}
 use mathlib.Core.Path.{◌≡◌, ap, ◌∙◌}
 use mathlib.Core.List.{List}
 use mathlib.Core.Bool.{true, false}
@@ -7,10 +8,10 @@ use native.Mathlib.Nat.{zero-add}
 use borrow.Author.Tests.{lt-ltb, le-ltb}
 use lib.ListN.{length}
 use Rattle.base.specs.Outcome.{Outcome, refused, answered}
-use Rattle.base.specs.Refusals.{above_domain, name_outside, text_full, domain}
+use Rattle.base.specs.Refusals.{text_full, domain, number_of}
 use Rattle.base.proofs.ListLaws.{sets-front}
-use Rattle.utf16.specs.declared.Decoded.{Decoded}
-use Rattle.utf16.specs.declared.Decoded.TheVariants as decoded
+use Rattle.base.specs.declared.refusal.Refusal.{Refusal}
+use Rattle.base.specs.declared.refusal.Refusal.TheVariants.{AboveDomain, NameOutside, TextFull}
 use Rattle.utf16.proofs.PutLaws.{Put}
 use Rattle.entry_slots.specs.Names.{lengths_of, inside}
 use Rattle.entry_slots.specs.declared.NamePlace.{NamePlace}
@@ -29,26 +30,26 @@ module _ {A : Type 0} (text : A → List ℕ) (room : ℕ) {o : Outcome A} {a : 
 
 -- decoding the name at a place
 module _ (journal image : List ℕ) (p : NamePlace) (l : List ℕ) where
-  abbrev Comes' : Decoded → List ℕ → Type 0
+  abbrev Comes' : Result ℕ Refusal → List ℕ → Type 0
   Comes' = Decodes journal image p l
 
-  unread : {n : ℕ} → decode_out journal image p l ≡ refused n → Comes' (decoded.Refused n) l
+  unread : {r : Refusal} → decode_out journal image p l ≡ refused (number_of r) → Comes' (Err r) l
   unread e = record { answer = rw e; written = rw e }
 
-  unplaced : {n : ℕ} → placing (lengths_of journal image) p ≡ refused n → Comes' (decoded.Refused n) l
+  unplaced : {r : Refusal} → placing (lengths_of journal image) p ≡ refused (number_of r) → Comes' (Err r) l
   unplaced e = unread (rw e)
 
-  pub decode-journal : domain < length journal → Comes' (decoded.Refused above_domain) l
+  pub decode-journal : domain < length journal → Comes' (Err AboveDomain) l
   unfolding placing
   decode-journal h = unplaced (journal-above (lengths_of journal image) _ h)
 
   module _ (a : length journal ≤ domain) where
-    pub decode-image : domain < length image → Comes' (decoded.Refused above_domain) l
+    pub decode-image : domain < length image → Comes' (Err AboveDomain) l
     unfolding placing
     decode-image h = unplaced (image-above (lengths_of journal image) _ a h)
 
     module _ (b : length image ≤ domain) where
-      pub decode-outside : inside (lengths_of journal image) p ≡ false → Comes' (decoded.Refused name_outside) l
+      pub decode-outside : inside (lengths_of journal image) p ≡ false → Comes' (Err NameOutside) l
       unfolding placing
       decode-outside e = unplaced (both-within (lengths_of journal image) _ a b ∙ simp e)
 
@@ -57,11 +58,11 @@ module _ (journal image : List ℕ) (p : NamePlace) (l : List ℕ) where
         unfolding placing
         placed = both-within (lengths_of journal image) _ a b ∙ simp e
 
-        pub decode-full : {n : ℕ} → n ≡ length (place_text journal image p) → length l < n → Comes' (decoded.Refused text_full) l
+        pub decode-full : {n : ℕ} → n ≡ length (place_text journal image p) → length l < n → Comes' (Err TextFull) l
         decode-full f h = unread (text-over (place_text journal image) (length l) placed (rw f at h))
 
         pub decode-written : {n r : ℕ} {m : List ℕ} → n ≡ length (place_text journal image p) → n ≤ length l → Put l m 0 r (place_text journal image p)
-            → Comes' (decoded.Text r) m
+            → Comes' (Ok r) m
         decode-written f h q =
             let fits : length (place_text journal image p) ≤ length l = rw f at h in
             let o = text-fits (place_text journal image) (length l) placed fits in

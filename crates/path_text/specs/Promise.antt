@@ -1,10 +1,9 @@
 -- What the call promises. The record says it of lists: what the lent slices hold before, and, with ', after. The promise itself takes the call's parameters.
-use Rattle.std.specs.Prelude.{ℕ, ◌≡◌, List, length}
+use Rattle.std.specs.Prelude.{ℕ, ◌≡◌, List, length, Result}
 use Rattle.base.specs.Lent.{Lent, MutLent, before, before_mut, after}
 use Rattle.base.specs.Lists.{list_after}
-use Rattle.base.specs.Outcome.{Outcome, map_outcome}
-use Rattle.utf16.specs.Decoding.{outcome as decoded_outcome}
-use Rattle.utf16.specs.declared.Decoded.{Decoded}
+use Rattle.base.specs.Outcome.{Outcome, outcome, map_outcome}
+use Rattle.base.specs.declared.refusal.Refusal.{Refusal}
 use Rattle.entry_slots.specs.declared.NamePlace.{NamePlace}
 use Rattle.path_text.specs.Text.{place_text, place_length}
 use Rattle.path_text.specs.Decoding.{place, place_decoding}
@@ -14,10 +13,10 @@ module _ (journal image : List ℕ) (p : NamePlace) (text : List ℕ) where
   abbrev pub decode_out : Outcome NamePlace
   decode_out = place_decoding journal image p (length text)
 
-  pub record Decodes (r : Decoded) (text' : List ℕ) : Type 0 where
-    pub answer : decoded_outcome r ≡ map_outcome (place_length journal image) decode_out
+  pub record Decodes (r : Result ℕ Refusal) (text' : List ℕ) : Type 0 where
+    pub answer : outcome r ≡ map_outcome (place_length journal image) decode_out
     pub written : text' ≡ list_after (place_text journal image) decode_out text
 
-abbrev pub DecodePromise : Lent → Lent → ℕ → ℕ → ℕ → MutLent → Decoded → Type 0
+abbrev pub DecodePromise : Lent → Lent → ℕ → ℕ → ℕ → MutLent → Result ℕ Refusal → Type 0
 DecodePromise journal image source offset size text r =
     Decodes (before journal) (before image) (place source offset size) (before_mut text) r (after text)

@@ -13,12 +13,13 @@ pub mod text;
 ghost use Rattle.path_text.specs.Promise.{DecodePromise};
 
 use crate::text::{place_length, put_place};
-use base::{ABOVE_DOMAIN, DOMAIN, NAME_OUTSIDE, TEXT_FULL};
+use base::DOMAIN;
+use base::refusal::Refusal;
 use entry_slots::NamePlace;
 use entry_slots::names::is_inside;
-use utf16::Decoded;
 
-// The text of the name at a place, at the front of the lent text. An odd last byte is dropped.
+// The text of the name at a place, which comes as the three words that a table or C has of it, at the front of the lent text. An odd last
+// byte is dropped.
 // Refused, with nothing written: 1 journal or image is above the domain, 7 the place, as it is given, is outside its slice, 8 the
 // text is too small.
 pub fn decode(
@@ -28,14 +29,14 @@ pub fn decode(
     offset: u64,
     size: u64,
     text: &mut [u8],
-) -> Decoded
+) -> Result<usize, Refusal>
     ensures { DecodePromise journal image source offset size text result }
 {
     if DOMAIN < journal.len() {
-        return Decoded::Refused(ABOVE_DOMAIN);
+        return Err(Refusal::AboveDomain);
     }
     if DOMAIN < image.len() {
-        return Decoded::Refused(ABOVE_DOMAIN);
+        return Err(Refusal::AboveDomain);
     }
     let name = NamePlace {
         source,
@@ -43,10 +44,10 @@ pub fn decode(
         length: size,
     };
     if !is_inside(name, journal.len(), image.len()) {
-        return Decoded::Refused(NAME_OUTSIDE);
+        return Err(Refusal::NameOutside);
     }
     if text.len() < place_length(journal, image, name) {
-        return Decoded::Refused(TEXT_FULL);
+        return Err(Refusal::TextFull);
     }
-    Decoded::Text(put_place(journal, image, name, text, 0))
+    Ok(put_place(journal, image, name, text, 0))
 }

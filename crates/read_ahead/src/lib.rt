@@ -61,7 +61,8 @@ pub fn ahead_forward(
     reached(end, sum)
 }
 
-// The same before a walk from the last record to the first, with positions from the last one on.
+// The same before a walk from the last record to the first, with positions from the last one on. What the two have in common is the
+// tests of the first lines; one function for both would take a closure for the rest, and be longer than they are.
 pub fn ahead_backward(
     journal: &[u8],
     records: &[usize],

@@ -1,9 +1,8 @@
 -- What is known of the cases of a recording.
-use Rattle.std.specs.Prelude.{ℕ, ◌≤◌, ◌<◌}
-use Rattle.recording.specs.declared.cases.NextCase.{NextCase}
-use Rattle.recording.specs.declared.cases.NextCase.TheVariants.{Over, Case}
+use Rattle.std.specs.Prelude.{ℕ, ◌≡◌, List, ◌++◌, length}
 
--- a case at an offset of a recording of n bytes lies inside it, and ends further on
-abbrev pub CaseInside : ℕ → ℕ → NextCase → Type 0
-CaseInside n at Over = Unit {0}
-CaseInside n at (Case kind start end) = (at < start) × (start ≤ end) × (end ≤ n)
+-- a recording begins with a case that has these bytes, and goes on with the rest: five bytes stand before them
+pub record Begins (cases bytes rest : List ℕ) : Type 0 where
+  pub head : List ℕ
+  pub five : length head ≡ 5
+  pub parts : cases ≡ head ++ (bytes ++ rest)

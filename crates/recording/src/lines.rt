@@ -1,13 +1,14 @@
 // Lines with numbers, a record's fields, a text or a refusal, each put to a writer.
 use base::Place;
+use base::refusal::Refusal;
 use std::io;
 use std::io::Write;
 use usn_record::UsnRecord;
-use usn_record::bytes::{byte_at, le_u16, signed_bits};
+use usn_record::bytes::{le_u16, signed_bits};
 
 // A line that no recording has.
-pub fn write_refused<W: Write>(out: &mut W, n: u32) -> io::Result<()> {
-    write_count(out, b"refused ", n as u64)?;
+pub fn write_refused<W: Write>(out: &mut W, refusal: Refusal) -> io::Result<()> {
+    write_count(out, b"refused ", refusal.number() as u64)?;
     out.write_all(b"\n")
 }
 
@@ -24,18 +25,22 @@ pub fn write_field<W: Write>(out: &mut W, n: u64) -> io::Result<()> {
 
 // A line: the fields that the original has, and the units of the name, whose place counts from the start of bytes.
 pub fn write_record<W: Write>(out: &mut W, r: UsnRecord, bytes: &[u8]) -> io::Result<()> {
-    write_field(out, r.mft_entry)?;
-    write_field(out, r.mft_sequence as u64)?;
-    write_field(out, r.parent_mft_entry)?;
-    write_field(out, r.parent_mft_sequence as u64)?;
-    write_field(out, signed_bits(r.usn))?;
-    write_field(out, r.timestamp.seconds)?;
-    write_field(out, r.timestamp.nanoseconds as u64)?;
-    write_field(out, r.reason as u64)?;
-    write_field(out, r.file_attributes as u64)?;
-    write_field(out, r.source_info as u64)?;
-    write_field(out, r.security_id as u64)?;
-    write_field(out, r.major_version as u64)?;
+    for field in [
+        r.mft_entry,
+        r.mft_sequence as u64,
+        r.parent_mft_entry,
+        r.parent_mft_sequence as u64,
+        signed_bits(r.usn),
+        r.timestamp.seconds,
+        r.timestamp.nanoseconds as u64,
+        r.reason as u64,
+        r.file_attributes as u64,
+        r.source_info as u64,
+        r.security_id as u64,
+        r.major_version as u64,
+    ] {
+        write_field(out, field)?;
+    }
     write_name(out, r.filename, bytes)
 }
 
@@ -56,14 +61,9 @@ fn write_name<W: Write>(out: &mut W, name: Place, bytes: &[u8]) -> io::Result<()
 }
 
 fn write_units<W: Write>(out: &mut W, units: &[u8]) -> io::Result<()> {
-    let mut k: usize = 0;
-    while k < units.len() {
-        let unit = le_u16(units, k);
+    for unit in units.chunks(2) {
+        let unit = le_u16(unit, 0);
         write!(out, "{unit:04x}")?;
-        if units.len() - k < 2 {
-            return Ok(());
-        }
-        k += 2;
     }
     Ok(())
 }
@@ -79,8 +79,7 @@ pub fn write_hex<W: Write>(out: &mut W, text: &[u8], n: usize) -> io::Result<()>
 
 // Two digits a byte.
 fn write_digits<W: Write>(out: &mut W, text: &[u8], n: usize) -> io::Result<()> {
-    for i in 0..n {
-        let byte = byte_at(text, i);
+    for byte in text.iter().take(n) {
         write!(out, "{byte:02x}")?;
     }
     Ok(())

@@ -17,25 +17,26 @@
 #![tactic(auto)]
 
 mod images;
+mod kinds;
 mod paths;
 mod readers;
-mod records;
 mod rewinds;
+mod texts;
 
 ghost use Rattle.std.specs.Prelude.{◌≡◌, ◌≤◌, length, IfOk};
 
-use recording::cases::{NextCase, case_at, part};
+use crate::kinds::{Kind, UnknownKind};
+use recording::cases::{Case, split_case};
+use recording::lines::write_count;
 use std::io;
 use std::io::{BufWriter, Read, Write};
 use usn_record::{parse_usn_record_v2, parse_usn_record_v3};
 
-// A program: where its journal and its image lie in the recording, and how many slots of its table are used.
-#[derive(Drop)]
-struct Program {
-    journal_start: usize,
-    journal_end: usize,
-    image_start: usize,
-    image_end: usize,
+// A program: its journal and its image, which lie in the recording, and how many slots of its table are used.
+#[derive(Clone, Copy)]
+struct Program<'a> {
+    journal: &'a [u8],
+    image: &'a [u8],
     used: usize,
 }
 
@@ -55,7 +56,7 @@ fn room() -> [u8; 524288]
     [0; 524288]
 }
 
-// Reads until the buffer is full or the input ends, and answers how many bytes were read.
+// Reads until the buffer is full or the input ends, and answers how many bytes were read. A turn takes as many as a read gives.
 fn read_full<R: Read>(input: &mut R, buffer: &mut [u8]) -> io::Result<usize>
     ensures { IfOk result (λ n. n ≤ length buffer.old) }
 {
@@ -70,99 +71,117 @@ fn read_full<R: Read>(input: &mut R, buffer: &mut [u8]) -> io::Result<usize>
     Ok(n)
 }
 
-// Each case in turn.
-fn replay_all<W: Write>(out: &mut W, cases: &[u8], slots: &mut [u64]) -> io::Result<()> {
-    let mut program = began(0, 0);
-    let mut at: usize = 0;
-    loop {
-        match case_at(cases, at) {
-            NextCase::Over => return Ok(()),
-            NextCase::Case { kind, start, end } => {
-                program = answer(out, cases, kind, start, end, program, slots)?;
-                at = end;
-            }
-        }
-    }
-}
-
-// A program over this journal, without an image, and with an empty table.
-fn began(start: usize, end: usize) -> Program {
-    Program {
-        journal_start: start,
-        journal_end: end,
-        image_start: end,
-        image_end: end,
+// Each case in turn: where the next one begins is said by the one before it.
+fn replay_all<W: Write>(out: &mut W, recording: &[u8], slots: &mut [u64]) -> io::Result<()> {
+    let mut program = Program {
+        journal: &[],
+        image: &[],
         used: 0,
+    };
+    let mut rest = recording;
+    while let Some((case, behind)) = split_case(rest) {
+        program = answer(out, case, program, slots)?;
+        rest = behind;
     }
+    Ok(())
 }
 
 // The program after a case.
-fn answer<W: Write>(
+fn answer<'a, W: Write>(
     out: &mut W,
-    cases: &[u8],
-    kind: u8,
-    start: usize,
-    end: usize,
-    program: Program,
+    case: Case<'a>,
+    program: Program<'a>,
     slots: &mut [u64],
-) -> io::Result<Program> {
-    if kind == 8 {
-        return Ok(began(start, end));
+) -> io::Result<Program<'a>> {
+    match Kind::try_from(case.kind) {
+        Ok(kind) => call(out, kind, case.bytes, program, slots),
+        Err(UnknownKind(number)) => {
+            write_count(out, b"unknown ", number as u64)?;
+            out.write_all(b"\n")?;
+            Ok(program)
+        }
     }
-    if kind == 9 {
-        return Ok(Program {
-            journal_start: program.journal_start,
-            journal_end: program.journal_end,
-            image_start: start,
-            image_end: end,
-            used: program.used,
-        });
-    }
-    let journal = part(cases, program.journal_start, program.journal_end);
-    let image = part(cases, program.image_start, program.image_end);
-    let bytes = part(cases, start, end);
-    let used = call(out, journal, image, kind, bytes, program.used, slots)?;
-    Ok(Program {
-        journal_start: program.journal_start,
-        journal_end: program.journal_end,
-        image_start: program.image_start,
-        image_end: program.image_end,
+}
+
+// The call of a case. A journal begins a program without an image, and with an empty table.
+fn call<'a, W: Write>(
+    out: &mut W,
+    kind: Kind,
+    bytes: &'a [u8],
+    program: Program<'a>,
+    slots: &mut [u64],
+) -> io::Result<Program<'a>> {
+    let Program {
+        journal,
+        image,
         used,
-    })
-}
-
-// The used slots after the call of a case.
-fn call<W: Write>(
-    out: &mut W,
-    journal: &[u8],
-    image: &[u8],
-    kind: u8,
-    bytes: &[u8],
-    used: usize,
-    slots: &mut [u64],
-) -> io::Result<usize> {
+    } = program;
     match kind {
-        1..=7 => {
-            read(out, kind, bytes)?;
-            Ok(used)
+        Kind::ParseV2 => readers::write_parsed(out, parse_usn_record_v2(bytes), bytes)?,
+        Kind::ParseV3 => readers::write_parsed(out, parse_usn_record_v3(bytes), bytes)?,
+        Kind::Scan => readers::scan(out, bytes)?,
+        Kind::CarveRecords => readers::carve(out, bytes)?,
+        Kind::Window => readers::window(out, bytes)?,
+        Kind::CarveEntries => images::carve(out, bytes)?,
+        Kind::Decode => images::decode(out, bytes)?,
+        Kind::Journal => {
+            return Ok(Program {
+                journal: bytes,
+                image: &bytes[..0],
+                used: 0,
+            });
         }
-        15 => {
-            rewinds::rewind_journal(out, journal, image)?;
-            Ok(used)
+        Kind::Image => {
+            return Ok(Program {
+                journal,
+                image: bytes,
+                used,
+            });
         }
-        _ => paths::call(out, journal, image, kind, bytes, used, slots),
+        Kind::Insert => {
+            let answer = entry_table::insert(
+                journal,
+                image,
+                slots,
+                used,
+                paths::key_in(bytes),
+                paths::info_in(bytes),
+            );
+            let used = paths::stored(out, answer, used)?;
+            return Ok(Program {
+                journal,
+                image,
+                used,
+            });
+        }
+        Kind::InsertIfAbsent => {
+            let answer = entry_table::insert_if_absent(
+                journal,
+                image,
+                slots,
+                used,
+                paths::key_in(bytes),
+                paths::info_in(bytes),
+            );
+            let used = paths::stored(out, answer, used)?;
+            return Ok(Program {
+                journal,
+                image,
+                used,
+            });
+        }
+        Kind::Seed => {
+            let answer = paths::seed(journal, image, bytes, used, slots);
+            let used = paths::stored(out, answer, used)?;
+            return Ok(Program {
+                journal,
+                image,
+                used,
+            });
+        }
+        Kind::Path => paths::write_path(out, journal, image, bytes, used, slots)?,
+        Kind::Name => paths::write_name(out, journal, image, bytes)?,
+        Kind::Rewind => rewinds::rewind_journal(out, journal, image)?,
     }
-}
-
-// The calls on bytes alone.
-fn read<W: Write>(out: &mut W, kind: u8, bytes: &[u8]) -> io::Result<()> {
-    match kind {
-        1 => records::write_parsed(out, parse_usn_record_v2(bytes), bytes),
-        2 => records::write_parsed(out, parse_usn_record_v3(bytes), bytes),
-        3 => readers::scan(out, bytes),
-        4 => readers::carve(out, bytes),
-        5 => readers::window(out, bytes),
-        6 => images::carve(out, bytes),
-        _ => images::write_text(out, bytes),
-    }
+    Ok(program)
 }

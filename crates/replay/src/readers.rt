@@ -1,33 +1,57 @@
-// Journals, for the three readers. The Rust was given full reads; here the window is given five bytes at a time.
+// Slices, for the parsers, and journals, for the three readers. The Rust was given full reads; here the window is given five bytes at a
+// time.
 ghost use Rattle.std.specs.Prelude.{◌≡◌, ◌≤◌, length};
 
+use base::refusal::Refusal;
 use recording::lines::{write_count, write_field, write_record, write_refused};
 use std::io;
 use std::io::Write;
-use usn_carver::{Carving, CarvingStats, carve_usn_records};
-use usn_record::{Parsed, listed_record};
-use usn_scan::{Scanned, parse_usn_journal};
-use usn_window::{Answer, Reading, UsnJournalReader};
+use usn_carver::{CarvingStats, carve_usn_records};
+use usn_record::{UsnRecord, listed_record};
+use usn_scan::parse_usn_journal;
+use usn_window::{Answer, UsnJournalReader};
+
+// The words of a place in a reader's list.
+const PLACE_WORDS: usize = 2;
+
+// A line: the record that a slice begins with, or that the parser gives an error.
+pub(crate) fn write_parsed<W: Write>(
+    out: &mut W,
+    parsed: Result<UsnRecord, Refusal>,
+    slice: &[u8],
+) -> io::Result<()> {
+    match parsed {
+        Ok(record) => write_record(out, record, slice),
+        Err(_) => out.write_all(b"error\n"),
+    }
+}
 
 pub(crate) fn scan<W: Write>(out: &mut W, journal: &[u8]) -> io::Result<()> {
     let mut list = [0usize; 128];
     match parse_usn_journal(journal, &mut list) {
-        Scanned::Records(n) => {
+        Ok(n) => {
             write_records_line(out, n)?;
-            write_listed(out, journal, &list, n, false)
+            for place in list.chunks_exact(PLACE_WORDS).take(n) {
+                write_at(out, journal, place[0])?;
+            }
+            Ok(())
         }
-        Scanned::Refused(n) => write_refused(out, n),
+        Err(refusal) => write_refused(out, refusal),
     }
 }
 
 pub(crate) fn carve<W: Write>(out: &mut W, journal: &[u8]) -> io::Result<()> {
     let mut list = [0usize; 128];
     match carve_usn_records(journal, &mut list) {
-        Carving::Carved(stats) => {
+        Ok(stats) => {
             write_stats(out, stats)?;
-            write_listed(out, journal, &list, stats.records_carved, true)
+            for place in list.chunks_exact(PLACE_WORDS).take(stats.records_carved) {
+                write_field(out, place[0] as u64)?;
+                write_at(out, journal, place[0])?;
+            }
+            Ok(())
         }
-        Carving::Refused(n) => write_refused(out, n),
+        Err(refusal) => write_refused(out, refusal),
     }
 }
 
@@ -44,36 +68,14 @@ fn write_stats<W: Write>(out: &mut W, stats: CarvingStats) -> io::Result<()> {
     out.write_all(b"\n")
 }
 
-// The first n records of a list, each by its offset alone.
-fn write_listed<W: Write>(
-    out: &mut W,
-    journal: &[u8],
-    list: &[usize],
-    n: usize,
-    offsets: bool,
-) -> io::Result<()> {
-    for i in 0..n {
-        if list.len() / 2 <= i {
-            return Ok(());
-        }
-        let at = list[2 * i];
-        if offsets {
-            write_field(out, at as u64)?;
-        }
-        write_at(out, journal, at)?;
-    }
-    Ok(())
-}
-
-fn write_at<W: Write>(out: &mut W, journal: &[u8], at: usize) -> io::Result<()> {
-    match listed_record(journal, at) {
-        Parsed::Record(r) => {
-            if at <= journal.len() {
-                write_record(out, r, &journal[at..])?;
-            }
-            Ok(())
-        }
-        Parsed::Refused(n) => write_refused(out, n),
+// A line: the record at an offset.
+fn write_at<W: Write>(out: &mut W, journal: &[u8], offset: usize) -> io::Result<()> {
+    match listed_record(journal, offset) {
+        Ok(record) => match journal.get(offset..) {
+            Some(bytes) => write_record(out, record, bytes),
+            None => Ok(()),
+        },
+        Err(refusal) => write_refused(out, refusal),
     }
 }
 
@@ -87,47 +89,37 @@ fn window_room() -> [u8; 65536]
 // The window's records are counted in one run and written in another.
 pub(crate) fn window<W: Write>(out: &mut W, journal: &[u8]) -> io::Result<()> {
     let mut buffer = window_room();
-    let n = run_window(out, journal, &mut buffer, false)?;
+    let n = run_window(journal, &mut buffer, |_, _| Ok(()))?;
     write_records_line(out, n)?;
-    run_window(out, journal, &mut buffer, true)?;
+    run_window(journal, &mut buffer, |record, bytes| {
+        write_record(out, record, bytes)
+    })?;
     Ok(())
 }
 
-// How many records the window gives of a journal, in at most so many calls, each also as a line where that is asked.
-fn run_window<W: Write>(
-    out: &mut W,
+// How many records the window gives of a journal, in at most so many calls; each is visited, with the buffer that its name lies in.
+fn run_window<F: FnMut(UsnRecord, &[u8]) -> io::Result<()>>(
     journal: &[u8],
     buffer: &mut [u8],
-    lines: bool,
-) -> io::Result<usize> {
+    mut visit: F,
+) -> io::Result<usize>
+    requires { F.IsAlwaysCallable visit }
+{
     let mut reader = UsnJournalReader::new(journal.len());
     let mut records: usize = 0;
-    let mut calls: usize = 0;
-    while calls < 100000 {
-        calls += 1;
-        let r = reader.next(buffer);
-        reader = r.reader;
-        let a = r.answer;
-        match a {
-            Answer::Record {
-                offset: _,
-                length: _,
-                record,
-            } => {
-                records += 1;
-                if lines {
-                    write_record(out, record, buffer)?;
-                }
+    for _ in 0..100000 {
+        let reading = reader.next(buffer);
+        reader = reading.reader;
+        match reading.answer {
+            Ok(Answer::Record { record, .. }) => {
+                records = records.saturating_add(1);
+                visit(record, buffer)?;
             }
-            Answer::Wants { from, bytes } => {
+            Ok(Answer::Wants { from, bytes }) => {
                 reader = give_some(reader, buffer, journal, from, bytes);
             }
-            Answer::End => {
-                return Ok(records);
-            }
-            Answer::Refused(_) => {
-                return Ok(records);
-            }
+            Ok(Answer::End) => return Ok(records),
+            Err(_) => return Ok(records),
         }
     }
     Ok(records)
@@ -141,17 +133,11 @@ fn give_some(
     from: usize,
     bytes: usize,
 ) -> UsnJournalReader {
-    if journal.len() < from {
-        return reader;
+    match journal.get(from..) {
+        Some(rest) => {
+            let few = bytes.min(5).min(rest.len());
+            reader.give(buffer, &rest[..few]).reader
+        }
+        None => reader,
     }
-    let few = least(least(bytes, 5), journal.len() - from);
-    let end = from + few;
-    let r = reader.give(buffer, &journal[from..end]);
-    r.reader
-}
-
-fn least(a: usize, b: usize) -> usize
-    ensures { (result ≤ a) × (result ≤ b) }
-{
-    if a < b { a } else { b }
 }

@@ -1,11 +1,10 @@
 // Rewinds: the records of a journal, over the entries of an image.
-use entry_table::Stored;
-use mft_carver::{ENTRY_WORDS, MftCarving, carve_mft_entries};
+use mft_carver::{ENTRY_WORDS, carve_mft_entries};
 use recording::lines::{write_count, write_hex, write_refused};
-use rewind::{NextPath, PathStep, Rewind, Started, rewind_next, rewind_start};
+use rewind::{Rewind, rewind_next, rewind_start};
 use std::io;
 use std::io::Write;
-use usn_scan::{Scanned, parse_usn_journal};
+use usn_scan::parse_usn_journal;
 
 // The words of a record in the scan's list.
 const PLACE_WORDS: usize = 2;
@@ -18,8 +17,8 @@ pub(crate) fn rewind_journal<W: Write>(
 ) -> io::Result<()> {
     let mut list = [0usize; 600];
     match parse_usn_journal(journal, &mut list) {
-        Scanned::Records(n) => rewind_listed(out, journal, image, &list, n),
-        Scanned::Refused(n) => write_refused(out, n),
+        Ok(n) => rewind_listed(out, journal, image, &list, n),
+        Err(refusal) => write_refused(out, refusal),
     }
 }
 
@@ -34,17 +33,11 @@ fn rewind_listed<W: Write>(
     if list.len() / PLACE_WORDS < n {
         return Ok(());
     }
+    let records = &list[..n * PLACE_WORDS];
     let mut slots = [0u64; 2100];
     let used = seed_carved(out, journal, image, &mut slots)?;
     write_count(out, b"records ", n as u64)?;
-    rewind_records(
-        out,
-        journal,
-        image,
-        &list[..n * PLACE_WORDS],
-        &mut slots,
-        used,
-    )
+    rewind_records(out, journal, image, records, &mut slots, used)
 }
 
 // Carves the image; the used slots after its entries.
@@ -56,11 +49,9 @@ fn seed_carved<W: Write>(
 ) -> io::Result<usize> {
     let mut entries = [0u64; 576];
     match carve_mft_entries(image, &mut entries) {
-        MftCarving::Carved(stats) => {
-            seed_first(out, journal, image, &entries, stats.entries_carved, slots)
-        }
-        MftCarving::Refused(n) => {
-            write_refused(out, n)?;
+        Ok(stats) => seed_first(out, journal, image, &entries, stats.entries_carved, slots),
+        Err(refusal) => {
+            write_refused(out, refusal)?;
             Ok(0)
         }
     }
@@ -79,9 +70,9 @@ fn seed_first<W: Write>(
         return Ok(0);
     }
     match entry_table::seed(journal, image, slots, 0, &entries[..n * ENTRY_WORDS]) {
-        Stored::Used(used) => Ok(used),
-        Stored::Refused(n) => {
-            write_refused(out, n)?;
+        Ok(used) => Ok(used),
+        Err(refusal) => {
+            write_refused(out, refusal)?;
             Ok(0)
         }
     }
@@ -98,12 +89,12 @@ fn rewind_records<W: Write>(
 ) -> io::Result<()> {
     let mut forward = [0u64; 2100];
     match rewind_start(journal, image, records, slots, used, &mut forward) {
-        Started::Begun(rewind) => {
+        Ok(rewind) => {
             write_count(out, b" used ", rewind.used as u64)?;
             out.write_all(b"\n")?;
             write_paths(out, journal, image, records, rewind, &mut forward)
         }
-        Started::Refused(n) => write_refused(out, n),
+        Err(refusal) => write_refused(out, refusal),
     }
 }
 
@@ -117,38 +108,18 @@ fn write_paths<W: Write>(
     forward: &mut [u64],
 ) -> io::Result<()> {
     let mut rewind = begun;
-    let mut steps: usize = 0;
-    while steps < records.len() {
-        let step = write_step(out, journal, image, records, rewind, forward)?;
+    for _ in records {
+        let mut chain = [0u64; 771];
+        let mut text = [0u8; 8192];
+        let step = rewind_next(
+            journal, image, records, rewind, forward, &mut chain, &mut text,
+        );
         rewind = step.rewind;
-        let next = step.next;
-        match next {
-            NextPath::Record { path: _, text: _ } => {}
-            NextPath::End => return Ok(()),
-            NextPath::Refused(n) => return write_refused(out, n),
+        match step.next {
+            Ok(Some(written)) => write_hex(out, &text, written.text)?,
+            Ok(None) => return Ok(()),
+            Err(refusal) => return write_refused(out, refusal),
         }
-        steps += 1;
     }
     Ok(())
-}
-
-// The next record's path, a line.
-fn write_step<W: Write>(
-    out: &mut W,
-    journal: &[u8],
-    image: &[u8],
-    records: &[usize],
-    rewind: Rewind,
-    forward: &mut [u64],
-) -> io::Result<PathStep> {
-    let mut chain = [0u64; 771];
-    let mut text = [0u8; 8192];
-    let step = rewind_next(
-        journal, image, records, rewind, forward, &mut chain, &mut text,
-    );
-    let next = step.next;
-    if let NextPath::Record { path: _, text: n } = next {
-        write_hex(out, &text, n)?;
-    }
-    Ok(step)
 }

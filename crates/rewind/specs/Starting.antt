@@ -8,8 +8,6 @@ use Rattle.entry_slots.specs.Table.{Table, table, known}
 use Rattle.additions.specs.Storing.{add_all, new_keys, keys_of}
 use Rattle.rewind_records.specs.Environment.{Environment, environment_of, additions, tested}
 use Rattle.rewind.specs.declared.Rewind.{Rewind}
-use Rattle.rewind.specs.declared.Started.{Started}
-use Rattle.rewind.specs.declared.Started.TheVariants.{Begun, Refused}
 
 -- the slots that are used after it: those used before, and one for each different new key
 abbrev pub used_backward : Environment → Table → ℕ
@@ -49,8 +47,3 @@ first_after (answered ts) s = ts.first.words
 abbrev pub forward_after : Outcome Tables → List ℕ → List ℕ
 forward_after (refused n) s = s
 forward_after (answered ts) s = ts.forward.words
-
--- what the call's answer says
-abbrev pub start_outcome : Started → Outcome Rewind
-start_outcome (Begun r) = answered r
-start_outcome (Refused n) = refused n

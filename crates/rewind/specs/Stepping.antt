@@ -10,8 +10,6 @@ use Rattle.rewind_records.specs.Environment.{Environment, environment_of}
 use Rattle.rewind_records.specs.Turning.{Next, ended, next, map_next, turning}
 use Rattle.rewind_steps.specs.Taking.{Step, taken}
 use Rattle.rewind.specs.declared.Rewind.{Rewind}
-use Rattle.rewind.specs.declared.NextChain.{NextChain}
-use Rattle.rewind.specs.declared.NextChain.TheVariants.{Record, End, Refused}
 
 -- a step over a forward table, with so many records behind it
 abbrev pub stepping : Environment → Table → ℕ → ℕ → Outcome (Next Step)
@@ -49,9 +47,3 @@ chain_after (answered (next x)) l = with_places l x.chain.places
 -- what it answers: the names and the end of the parent's chain
 abbrev pub step_answer : Outcome (Next Step) → Outcome (Next ResolvedPath)
 step_answer = map_outcome (map_next (λ (x : Step). resolved x.chain))
-
--- what the call's answer says
-abbrev pub outcome : NextChain → Outcome (Next ResolvedPath)
-outcome (Record p) = answered (next p)
-outcome End = answered ended
-outcome (Refused n) = refused n

@@ -3,14 +3,12 @@ use Rattle.std.specs.Prelude.{ℕ, List, length}
 use Rattle.base.specs.Outcome.{Outcome, refused, answered, map_outcome}
 use Rattle.chain.specs.Chain.{resolved}
 use Rattle.path_text.specs.Decoding.{with_text}
-use Rattle.path.specs.Written.{WrittenPath}
+use Rattle.path.specs.declared.WrittenPath.{WrittenPath}
 use Rattle.rewind_records.specs.Turning.{Next, ended, next, map_next}
 use Rattle.rewind_steps.specs.Taking.{Step}
 use Rattle.rewind_steps.specs.StepText.{record_text, next_text}
 use Rattle.rewind.specs.Stepping.{stepped}
 use Rattle.rewind.specs.declared.Rewind.{Rewind}
-use Rattle.rewind.specs.declared.NextPath.{NextPath}
-use Rattle.rewind.specs.declared.NextPath.TheVariants.{Record, End, Refused}
 
 -- a call's step with room for so many bytes of text: 1, 9, 12, 7, 6, and then 8
 abbrev pub stepped_with_text : List ℕ → List ℕ → List ℕ → List ℕ → Rewind → ℕ → Outcome (Next Step)
@@ -22,9 +20,3 @@ written_step journal image x = record { path = resolved x.chain; text = length (
 
 abbrev pub written_answer : List ℕ → List ℕ → Outcome (Next Step) → Outcome (Next WrittenPath)
 written_answer journal image = map_outcome (map_next (written_step journal image))
-
--- what the call's answer says
-abbrev pub written_outcome : NextPath → Outcome (Next WrittenPath)
-written_outcome (Record p n) = answered (next (record { path = p; text = n }))
-written_outcome End = answered ended
-written_outcome (Refused n) = refused n

@@ -12,20 +12,23 @@
 // nothing but the text and whether it fits.
 #![tactic(auto)]
 
+mod chain_step;
 mod start;
+pub mod words;
 
-ghost use Rattle.rewind.specs.Promise.{StartPromise, StartIndexedPromise, NextPromise, NextChainPromise};
+ghost use Rattle.std.specs.Prelude.{◌<◌, length};
+ghost use Rattle.chain.specs.Settings.{levels};
+ghost use Rattle.rewind.specs.Promise.{StartPromise, StartIndexedPromise, TellPromise, NextPromise};
 
+pub use crate::chain_step::rewind_next_chain;
 use crate::start::begin;
-use additions::entries::replaces_forward;
-use chain::ResolvedPath;
-use chain::way::{WAY_WORDS, list_chain, list_places};
+use base::refusal::Refusal;
+use chain::way::{WAY_WORDS, list_places};
 use entry_slots::links::is_enough;
 use entry_slots::slots::STRIDE;
-use entry_table::Stored;
-use entry_table::adding::add;
-use rewind_records::turn::{Turn, next_record};
-use rewind_steps::{Made, Stand, make_step};
+use path::WrittenPath;
+use rewind_records::turn::next_record;
+use rewind_steps::{Stand, Told, make_step};
 
 // A rewind under way: how many slots of the forward table are used, and how many records are behind.
 #[derive(Clone, Copy)]
@@ -34,40 +37,11 @@ pub struct Rewind {
     pub position: usize,
 }
 
-// What a start answers: the rewind, whose used slots are those of both tables; or a refusal's number.
+// What a step comes to: what it says of the next record, or that none is left, or its refusal; and the rewind after it, which is the one
+// before it where nothing was rewound.
 #[derive(Clone, Copy)]
-pub enum Started {
-    Begun(Rewind),
-    Refused(u32),
-}
-
-// What a step without text answers: names and end of the path of the record's parent, that no record is left, or a refusal's
-// number.
-#[derive(Clone, Copy)]
-pub enum NextChain {
-    Record(ResolvedPath),
-    End,
-    Refused(u32),
-}
-
-// What a step with text answers: also how many bytes the record's own path takes.
-#[derive(Clone, Copy)]
-pub enum NextPath {
-    Record { path: ResolvedPath, text: usize },
-    End,
-    Refused(u32),
-}
-
-// An answer with the rewind after it, which is the one before it where nothing was rewound.
-#[derive(Clone, Copy)]
-pub struct ChainStep {
-    pub next: NextChain,
-    pub rewind: Rewind,
-}
-
-#[derive(Clone, Copy)]
-pub struct PathStep {
-    pub next: NextPath,
+pub struct Step<T> {
+    pub next: Result<Option<T>, Refusal>,
     pub rewind: Rewind,
 }
 
@@ -83,7 +57,7 @@ pub fn rewind_start(
     slots: &mut [u64],
     used: usize,
     forward: &mut [u64],
-) -> Started
+) -> Result<Rewind, Refusal>
     ensures { StartPromise journal image records slots used forward result }
 {
     let mut heads: [u64; 0] = [];
@@ -95,7 +69,7 @@ pub fn rewind_start(
 
 // What rewind_start does, by way of an index of the first table, for which words are lent, whatever they hold. Where these are too
 // few, it does without. With fewer slots than the used ones and all records need, it passes over them to count the new keys, as
-// rewind_start does.
+// rewind_start does. Both are named by README and C, and are calls of one function.
 pub fn rewind_start_indexed(
     journal: &[u8],
     image: &[u8],
@@ -105,7 +79,7 @@ pub fn rewind_start_indexed(
     forward: &mut [u64],
     heads: &mut [u64],
     nexts: &mut [u64],
-) -> Started
+) -> Result<Rewind, Refusal>
     ensures { StartIndexedPromise journal image records slots used forward heads nexts result }
 {
     if is_enough(slots.len() / STRIDE, heads, nexts) {
@@ -137,109 +111,68 @@ pub fn rewind_next(
     forward: &mut [u64],
     list: &mut [u64],
     text: &mut [u8],
-) -> PathStep
+) -> Step<WrittenPath>
     ensures { NextPromise journal image records rewind forward list text result }
 {
-    match next_record(
-        journal,
-        image.len(),
-        records,
-        forward,
-        rewind.used,
-        rewind.position,
-    ) {
-        Turn::Refused(n) => PathStep {
-            next: NextPath::Refused(n),
-            rewind,
-        },
-        Turn::End => PathStep {
-            next: NextPath::End,
-            rewind,
-        },
-        Turn::Entry(entry) => {
-            let mut heads: [u64; 0] = [];
-            let mut nexts: [u64; 0] = [];
-            let mut way: [usize; WAY_WORDS] = [0; WAY_WORDS];
-            let stand = Stand {
-                used: rewind.used,
-                at: 0,
-            };
-            match make_step(
-                journal, image, entry, stand, forward, &mut heads, &mut nexts, &mut way, text,
-            ) {
-                Made::To { at: n, used, path } => {
-                    list_places(forward, &way, path.names, list);
-                    PathStep {
-                        next: NextPath::Record { path, text: n },
-                        rewind: Rewind {
-                            used,
-                            position: rewind.position + 1,
-                        },
-                    }
-                }
-                Made::End => PathStep {
-                    next: NextPath::End,
-                    rewind,
-                },
-                Made::Refused(n) => PathStep {
-                    next: NextPath::Refused(n),
-                    rewind,
+    let mut way: [usize; WAY_WORDS] = [0; WAY_WORDS];
+    match tell_next(journal, image, records, rewind, forward, &mut way, text) {
+        Ok(Some(told)) => {
+            list_places(forward, &way, told.path.names, list);
+            Step {
+                next: Ok(Some(WrittenPath {
+                    path: told.path,
+                    text: told.at,
+                })),
+                rewind: Rewind {
+                    used: told.used,
+                    position: rewind.position + 1,
                 },
             }
         }
+        Ok(None) => Step {
+            next: Ok(None),
+            rewind,
+        },
+        Err(refusal) => Step {
+            next: Err(refusal),
+            rewind,
+        },
     }
 }
 
-// A step without text: it gives the chain alone, and moves on likewise.
-// Refused as rewind_next is, but never with 8.
-pub fn rewind_next_chain(
+// The next record into the forward table, and its path to the front of the text; the slots of its parent's path go to the way.
+fn tell_next(
     journal: &[u8],
     image: &[u8],
     records: &[usize],
     rewind: Rewind,
     forward: &mut [u64],
-    list: &mut [u64],
-) -> ChainStep
-    ensures { NextChainPromise journal image records rewind forward list result }
+    way: &mut [usize],
+    text: &mut [u8],
+) -> Result<Option<Told>, Refusal>
+    requires { levels < length way.old }
+    ensures { TellPromise journal image records rewind forward way text result }
 {
-    match next_record(
+    let image_length = image.len();
+    let next = next_record(
         journal,
-        image.len(),
+        image_length,
         records,
         forward,
         rewind.used,
         rewind.position,
-    ) {
-        Turn::Refused(n) => ChainStep {
-            next: NextChain::Refused(n),
-            rewind,
-        },
-        Turn::End => ChainStep {
-            next: NextChain::End,
-            rewind,
-        },
-        Turn::Entry(entry) => match add(
-            forward,
-            rewind.used,
-            entry.key,
-            entry.info,
-            replaces_forward(entry),
-        ) {
-            Stored::Refused(n) => ChainStep {
-                next: NextChain::Refused(n),
-                rewind,
-            },
-            Stored::Used(used) => {
-                let info = entry.info;
-                let above = list_chain(forward, used, info.parent, list);
-                ChainStep {
-                    next: NextChain::Record(above),
-                    rewind: Rewind {
-                        used,
-                        position: rewind.position + 1,
-                    },
-                }
-            }
-        },
-    }
+    )?;
+    let Some(entry) = next else {
+        return Ok(None);
+    };
+    let mut heads: [u64; 0] = [];
+    let mut nexts: [u64; 0] = [];
+    let stand = Stand {
+        used: rewind.used,
+        at: 0,
+    };
+    let told = make_step(
+        journal, image, entry, stand, forward, &mut heads, &mut nexts, way, text,
+    )?;
+    Ok(Some(told))
 }

@@ -10,8 +10,10 @@ use Rattle.rewind_steps.specs.Taking.{Step}
 use Rattle.rewind.specs.Stepping.{stepped, rewind_after}
 use Rattle.rewind.specs.Written.{stepped_with_text, written_step}
 use Rattle.rewind.specs.declared.Rewind.{Rewind}
-use Rattle.volume_answers.specs.Path.{resolved_words, written_words}
-use Rattle.volume_answers.specs.Rewind.{rewind_words, next_words}
+use Rattle.chain.specs.Words.{resolved_words}
+use Rattle.path.specs.Words.{written_words}
+use Rattle.rewind.specs.Words.{rewind_words}
+use Rattle.volume_answers.specs.Rewind.{next_words}
 
 -- a state, from its numbers
 abbrev pub rewind_of : ℕ → ℕ → Rewind

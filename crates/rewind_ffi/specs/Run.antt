@@ -5,7 +5,7 @@ use Rattle.base.specs.Words.{after_domain}
 use Rattle.rewind.specs.declared.Rewind.{Rewind}
 use Rattle.run_steps.specs.Running.{Run, run_answer}
 use Rattle.rewind_run.specs.Running.{tested_run}
-use Rattle.volume_answers.specs.Rewind.{row_of}
+use Rattle.run_steps.specs.Words.{row_of}
 
 -- with lent words for the forward table, for the ends of the texts and for the answer
 abbrev pub run_call : List ℕ → List ℕ → List ℕ → Rewind → List ℕ → List ℕ → List ℕ → List ℕ → Outcome Run

@@ -14,12 +14,19 @@
 ghost use Rattle.rewind_ffi.specs.Promise.{StartCallPromise, NextChainCallPromise, NextCallPromise, StartIndexedCallPromise, RunCallPromise};
 ghost use Rattle.rewind_ffi.specs.Rewind.{rewind_of};
 
+use base::words::put_answer;
+use chain::words::CHAIN_WORDS;
+use path::words::PATH_WORDS;
 use rewind::Rewind;
+use rewind::words::START_WORDS;
+use run_steps::words::RUN_WORDS;
 use volume_answers::domain::short_over;
-use volume_answers::rewinds::{
-    CHAIN_STEP_WORDS, PATH_STEP_WORDS, RUN_WORDS, START_WORDS, put_chain_step, put_path_step,
-    put_run, put_start,
-};
+use volume_answers::rewinds::{STEP_WORDS, put_step};
+
+// The words of a step's longest answer, a record's, without text and with it.
+const CHAIN_STEP_WORDS: usize = STEP_WORDS + CHAIN_WORDS;
+
+const PATH_STEP_WORDS: usize = STEP_WORDS + PATH_WORDS;
 
 // The start of a rewind, over records as a reader lists them, two words each, of which the offset counts: they go into the table
 // of seven words a slot, of which used are used, from the last to the first, an old name of a rename in place of a known entry and
@@ -43,7 +50,7 @@ pub extern "C" fn rewind_start(
     if out.len() < START_WORDS {
         return short_over(journal, image);
     }
-    put_start(
+    put_answer(
         rewind::rewind_start(journal, image, records, slots, used, forward),
         out,
     )
@@ -74,7 +81,7 @@ pub extern "C" fn rewind_next(
     if out.len() < PATH_STEP_WORDS {
         return short_over(journal, image);
     }
-    put_path_step(
+    put_step(
         rewind::rewind_next(
             journal,
             image,
@@ -106,7 +113,7 @@ pub extern "C" fn rewind_next_chain(
     if out.len() < CHAIN_STEP_WORDS {
         return short_over(journal, image);
     }
-    put_chain_step(
+    put_step(
         rewind::rewind_next_chain(
             journal,
             image,
@@ -138,7 +145,7 @@ pub extern "C" fn rewind_start_indexed(
     if out.len() < START_WORDS {
         return short_over(journal, image);
     }
-    put_start(
+    put_answer(
         rewind::rewind_start_indexed(journal, image, records, slots, used, forward, heads, nexts),
         out,
     )
@@ -170,7 +177,7 @@ pub extern "C" fn rewind_run(
         return short_over(journal, image);
     }
     let from = Rewind { used, position };
-    put_run(
+    put_answer(
         rewind_run::rewind_run(
             journal, image, records, from, forward, heads, nexts, ends, text,
         ),

@@ -1,21 +1,25 @@
 -- The tests before a rewind call's work by their ways out, what has passed them, and the record that is next. Assumes nothing.
 use Prim.Native.Nat.{ℕ, ◌≤◌, ◌<◌}
-use mathlib.Core.Path.{◌≡◌, ap, sym, ◌∙◌}
+use mathlib.Core.Path.{◌≡◌, refl, ap, sym, ◌∙◌}
 use mathlib.Core.List.{List}
 use mathlib.Core.Bool.{Bool, true, false, not, ◌||◌}
 use native.Mathlib.Omega.{arith}
 use borrow.Author.Tests.{lt-ltb, le-ltb, ltb-false, ne_eqb, not-false}
 use lib.ListN.{drop}
 use lib.Dec.{ltb}
-use Rattle.base.specs.Outcome.{Outcome, refused, answered}
-use Rattle.base.specs.Refusals.{above_domain, bad_state, not_a_record, name_outside, domain}
+use Rattle.std.specs.Prelude.{Result, Ok, Err, Option}
+use Rattle.base.specs.Outcome.{Outcome, refused, answered, outcome}
+use Rattle.base.specs.Words.{number}
+use Rattle.base.specs.declared.refusal.Refusal.{Refusal}
+use Rattle.base.proofs.RefusalLaws.{some_number}
+use Rattle.base.specs.Refusals.{above_domain, bad_state, not_a_record, name_outside, domain, number_of}
 use Rattle.base.proofs.ChoiceLaws.{cond_cases, or_left, or_right}
 use Rattle.entry_slots.specs.Names.{all_inside}
 use Rattle.entry_slots.specs.Slots.{slots_in, names_in}
 use Rattle.entry_slots.specs.Table.{Table}
 use Rattle.rewind_records.specs.Environment.{Environment, environment_with, all_answered, entries_of, rewind_refusal, tested}
 use Rattle.additions.specs.Walking.{records_in, entry_in}
-use Rattle.rewind_records.specs.Turning.{Next, ended, next, first_of, turning}
+use Rattle.rewind_records.specs.Turning.{Next, ended, next, first_of, turning, next_outcome}
 use Rattle.additions.specs.declared.entries.RecordEntry.{RecordEntry}
 use Rattle.rewind_records.proofs.RecordLaws.{next-is, none_left}
 
@@ -93,22 +97,36 @@ module _ {A : Type 0} (env : Environment) (t : Table) (o : Outcome A) where
   pub tested-passed : {n : ℕ} → n ≡ rewind_refusal env t → n ≡ 0 → tested env t o ≡ o
   tested-passed e h = let f : rewind_refusal env t ≡ 0 = sym e ∙ h in rw f
 
+-- by what the tests answer
+module _ (env : Environment) (t : Table) {x : Result Unit Refusal} (e : number (outcome x) ≡ rewind_refusal env t) where
+  pub checks : {a : Unit} → x ≡ Ok a → rewind_refusal env t ≡ 0
+  checks h = sym (rw h at e)
+
+  pub check-refused : {A : Type 0} (o : Outcome A) {r : Refusal} → x ≡ Err r → tested env t o ≡ refused (number_of r)
+  check-refused o {r} h = tested-refused env t o (rw h at e) (some_number r)
+
+  pub check-passed : {A : Type 0} (o : Outcome A) {a : Unit} → x ≡ Ok a → tested env t o ≡ o
+  check-passed o h = tested-passed env t o {n = 0} (rw h at e) refl
+
 -- the record that is next
-module _ (journal l : List ℕ) (m p : ℕ) (t : Table) {n : ℕ} (e : n ≡ rewind_refusal (environment_with journal m l) t) where
+module _ (journal l : List ℕ) (m p : ℕ) (t : Table) where
   abbrev env : Environment
   env = environment_with journal m l
 
-  pub turn-refused : (n ≡ 0 → ⊥) → refused n ≡ turning env t p
+  pub turning-refused : {n : ℕ} → n ≡ rewind_refusal env t → (n ≡ 0 → ⊥) → refused n ≡ turning env t p
   unfolding turning
-  turn-refused h = sym (tested-refused env t (answered (first_of (drop p (entries_of env.records)))) e h)
+  turning-refused e h = sym (tested-refused env t (answered (first_of (drop p (entries_of env.records)))) e h)
 
-  module _ (h : n ≡ 0) where
+  pub turn-refused : {x : Result Unit Refusal} → number (outcome x) ≡ rewind_refusal env t → {r : Refusal} → x ≡ Err r → {o : Result (Option RecordEntry) Refusal} → o ≡ Err r → next_outcome o ≡ turning env t p
+  turn-refused e {r} h g = rw g (turning-refused (rw h at e) (some_number r))
+
+  module _ (pass : rewind_refusal env t ≡ 0) where
     all : all_answered env.records ≡ true
-    all = (passed env t (sym e ∙ h)).records
+    all = (passed env t pass).records
 
     goes : {x : Next RecordEntry} → first_of (drop p (entries_of env.records)) ≡ x → answered x ≡ turning env t p
     unfolding turning
-    goes f = sym (tested-passed env t (answered (first_of (drop p (entries_of env.records)))) e h ∙ ap answered f)
+    goes f = sym (tested-passed env t (answered (first_of (drop p (entries_of env.records)))) (sym pass) refl ∙ ap answered f)
 
     pub turn_end : records_in l ≤ p → answered ended ≡ turning env t p
     turn_end k = goes (none_left journal l all k)

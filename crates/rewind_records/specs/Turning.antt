@@ -1,11 +1,11 @@
 -- The record that is next, or that none is left.
-use Rattle.std.specs.Prelude.{ℕ, List, [], ◌∷◌, drop}
+use Rattle.std.specs.Prelude.{ℕ, List, [], ◌∷◌, drop, Option, None, Some, Result, Ok, Err}
 use Rattle.base.specs.Outcome.{Outcome, refused, answered}
+use Rattle.base.specs.Refusals.{number_of}
+use Rattle.base.specs.declared.refusal.Refusal.{Refusal}
 use Rattle.entry_slots.specs.Table.{Table}
 use Rattle.rewind_records.specs.Environment.{Environment, entries_of, tested}
 use Rattle.additions.specs.declared.entries.RecordEntry.{RecordEntry}
-use Rattle.rewind_records.specs.declared.turn.Turn.{Turn}
-use Rattle.rewind_records.specs.declared.turn.Turn.TheVariants as turn
 
 -- what a next one says, or that none is left
 pub data Next (A : Type 0) : Type 0 where
@@ -24,8 +24,8 @@ first_of (x ∷ xs) = next x
 unfoldable pub turning : Environment → Table → ℕ → Outcome (Next RecordEntry)
 turning env t position = tested env t (answered (first_of (drop position (entries_of env.records))))
 
--- what the answer of the function says that looks for it
-abbrev pub turn_outcome : Turn → Outcome (Next RecordEntry)
-turn_outcome (turn.Entry e) = answered (next e)
-turn_outcome turn.End = answered ended
-turn_outcome (turn.Refused n) = refused n
+-- what is answered where one may be next, and none may be left
+abbrev pub next_outcome : {A : Type 0} → Result (Option A) Refusal → Outcome (Next A)
+next_outcome (Err r) = refused (number_of r)
+next_outcome (Ok None) = answered ended
+next_outcome (Ok (Some a)) = answered (next a)

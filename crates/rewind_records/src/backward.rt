@@ -8,7 +8,7 @@ ghost use Rattle.additions.specs.Walking.{walked_back};
 ghost use Rattle.entry_table.specs.Promise.{StoreByPromise};
 
 use additions::entries::{entry_from_last, replaces_backward};
-use entry_table::Stored;
+use base::refusal::Refusal;
 use entry_table::adding::add_by;
 use read_ahead::ahead_backward;
 
@@ -21,31 +21,20 @@ pub fn add_backward(
     used: usize,
     heads: &mut [u64],
     nexts: &mut [u64],
-) -> Stored
+) -> Result<usize, Refusal>
     requires records_bound { used + new_keys (known (table slots.old used)) (keys_of (walked_back journal.now records.now)) ≤ slots_in slots.old }
     requires indexed { Indexed (table slots.old used) heads.old nexts.old × (0 < length heads.old → slots_in slots.old ≤ length nexts.old) }
     ensures { StoreByPromise slots heads nexts (adding (table slots.old used) (walked_back journal.now records.now)) result }
 {
-    let count = records.len() / 2;
     let mut now_used = used;
-    let mut i: usize = 0;
     let mut read: usize = 0;
-    while i < count {
+    for i in 0..records.len() / 2 {
         read = ahead_backward(journal, records, i, read, slots, heads, nexts);
         let entry = entry_from_last(journal, records, i);
-        match add_by(
-            slots,
-            now_used,
-            heads,
-            nexts,
-            entry.key,
-            entry.info,
-            replaces_backward(entry),
-        ) {
-            Stored::Used(n) => now_used = n,
-            Stored::Refused(n) => return Stored::Refused(n),
-        }
-        i += 1;
+        let replace = replaces_backward(entry);
+        now_used = add_by(
+            slots, now_used, heads, nexts, entry.key, entry.info, replace,
+        )?;
     }
-    Stored::Used(now_used)
+    Ok(now_used)
 }

@@ -5,10 +5,13 @@ ghost use Rattle.additions.specs.Entries.{entry_at};
 ghost use Rattle.additions.specs.Walking.{offsets_in};
 ghost use Rattle.entry_slots.specs.Table.{table};
 ghost use Rattle.rewind_records.specs.Environment.{all_answered, environment_with, rewind_refusal};
-ghost use Rattle.rewind_records.specs.Turning.{turning, turn_outcome};
+ghost use Rattle.base.specs.Outcome.{outcome};
+ghost use Rattle.base.specs.Words.{number};
+ghost use Rattle.rewind_records.specs.Turning.{turning, next_outcome};
 
 use additions::entries::{RecordEntry, entry_at};
-use base::{ABOVE_DOMAIN, BAD_STATE, DOMAIN, NAME_OUTSIDE, NOT_A_RECORD};
+use base::DOMAIN;
+use base::refusal::Refusal;
 use entry_slots::names::all_inside;
 use entry_slots::slots::STRIDE;
 use usn_record::listed::is_listed;
@@ -24,54 +27,43 @@ fn is_record(journal: &[u8], offset: usize) -> bool
 fn all_records(journal: &[u8], records: &[usize]) -> bool
     ensures { result ≡ all_answered (map (entry_at journal.now) (offsets_in records.now)) }
 {
-    let count = records.len() / 2;
-    let mut i: usize = 0;
-    while i < count {
+    for i in 0..records.len() / 2 {
         if !is_record(journal, records[i * 2]) {
             return false;
         }
-        i += 1;
     }
     true
 }
 
-// The next record, the end of the records, or a refusal.
-#[derive(Clone, Copy)]
-pub enum Turn {
-    Entry(RecordEntry),
-    End,
-    Refused(u32),
-}
-
-// The refusal of a rewind over a table, or 0.
-pub fn refusal(
+// The tests of a rewind over a table, in their order.
+pub fn check(
     journal: &[u8],
     image_length: usize,
     records: &[usize],
     slots: &[u64],
     used: usize,
-) -> u32
-    ensures { result ≡ rewind_refusal (environment_with journal.now image_length records.now) (table slots.now used) }
+) -> Result<(), Refusal>
+    ensures { number (outcome result) ≡ rewind_refusal (environment_with journal.now image_length records.now) (table slots.now used) }
 {
     if DOMAIN < journal.len() {
-        return ABOVE_DOMAIN;
+        return Err(Refusal::AboveDomain);
     }
     if DOMAIN < image_length {
-        return ABOVE_DOMAIN;
+        return Err(Refusal::AboveDomain);
     }
     if slots.len() / STRIDE < used {
-        return BAD_STATE;
+        return Err(Refusal::BadState);
     }
     if !all_records(journal, records) {
-        return NOT_A_RECORD;
+        return Err(Refusal::NotARecord);
     }
     if !all_inside(slots, used, journal.len(), image_length) {
-        return NAME_OUTSIDE;
+        return Err(Refusal::NameOutside);
     }
-    0
+    Ok(())
 }
 
-// The record that is next.
+// The record that is next, or none where all are behind.
 pub fn next_record(
     journal: &[u8],
     image_length: usize,
@@ -79,15 +71,12 @@ pub fn next_record(
     forward: &[u64],
     used: usize,
     position: usize,
-) -> Turn
-    ensures { turn_outcome result ≡ turning (environment_with journal.now image_length records.now) (table forward.now used) position }
+) -> Result<Option<RecordEntry>, Refusal>
+    ensures { next_outcome result ≡ turning (environment_with journal.now image_length records.now) (table forward.now used) position }
 {
-    let refused = refusal(journal, image_length, records, forward, used);
-    if refused != 0 {
-        return Turn::Refused(refused);
-    }
+    check(journal, image_length, records, forward, used)?;
     if records.len() / 2 <= position {
-        return Turn::End;
+        return Ok(None);
     }
-    Turn::Entry(entry_at(journal, records[position * 2]))
+    Ok(Some(entry_at(journal, records[position * 2])))
 }

@@ -11,7 +11,7 @@ use Rattle.base.specs.Outcome.{Outcome, refused, answered}
 use Rattle.entry_slots.specs.Table.{Table}
 use Rattle.rewind_records.specs.Environment.{Environment, environment_of, rewind_refusal}
 use Rattle.rewind_records.specs.Turning.{Next, ended, next, turning}
-use Rattle.rewind_records.proofs.TurnLaws.{turn-refused, tested-refused, tested-passed}
+use Rattle.rewind_records.proofs.TurnLaws.{turning-refused, tested-refused, tested-passed}
 use Rattle.rewind_steps.specs.Taking.{Step}
 use Rattle.rewind.specs.Stepping.{words_after, rewind_after, forward_table}
 use Rattle.rewind.specs.Written.{stepped_with_text}
@@ -90,7 +90,7 @@ module _ (journal image records words : List ℕ) (r : Rewind) (room asked : ℕ
   -- a step is refused by the same number, whatever room it has
   pub step-refused : (rewind_refusal env t ≡ 0 → ⊥) → (size : ℕ) → stepped_with_text journal image records words r size ≡ refused (rewind_refusal env t)
   step-refused h size =
-      let q : turning env t r.position ≡ refused (rewind_refusal env t) = sym (turn-refused journal records (length image) r.position t refl h) in
+      let q : turning env t r.position ≡ refused (rewind_refusal env t) = sym (turning-refused journal records (length image) r.position t refl h) in
       rw q
 
   -- the first call of a run whose tests have passed does not refuse it

@@ -82,7 +82,7 @@ module _ (journal image l words : List ℕ) (used position : ℕ) (pass : rewind
 
   stepped-next : position < records_in l → stepped journal image l words (state_of used position) ≡ taken t depth (next entry)
   stepped-next near =
-      let f : turning (environment_of journal image l) t position ≡ answered (next entry) = sym (turn-next journal l (length image) position t (sym pass) refl near refl) in
+      let f : turning (environment_of journal image l) t position ≡ answered (next entry) = sym (turn-next journal l (length image) position t pass near refl) in
       rw f
 
   module _ (room : ℕ) where

@@ -9,18 +9,12 @@
 
 ghost use Rattle.rewind_run.specs.Promise.{RunPromise};
 
+use base::refusal::Refusal;
 use entry_slots::links::{build, is_enough};
 use entry_slots::slots::STRIDE;
 use rewind::Rewind;
-use rewind_records::turn::refusal;
+use rewind_records::turn::check;
 use run_steps::{RewindRun, run};
-
-// What a call answers: its run, or a refusal's number.
-#[derive(Clone, Copy)]
-pub enum RunAnswer {
-    Ran(RewindRun),
-    Refused(u32),
-}
 
 // As many steps as there are words for the ends of their texts: each is what `rewind::rewind_next` does, with its text behind those
 // of the steps before it; the list of places is not written. It stops at the end of the records, and before a step for which there
@@ -37,28 +31,18 @@ pub fn rewind_run(
     nexts: &mut [u64],
     ends: &mut [u64],
     text: &mut [u8],
-) -> RunAnswer
+) -> Result<RewindRun, Refusal>
     ensures { RunPromise journal image records rewind forward heads nexts ends text result }
 {
-    let refused = refusal(journal, image.len(), records, forward, rewind.used);
-    if refused != 0 {
-        return RunAnswer::Refused(refused);
-    }
+    check(journal, image.len(), records, forward, rewind.used)?;
     if is_enough(forward.len() / STRIDE, heads, nexts) {
         build(forward, rewind.used, heads, nexts);
-        return RunAnswer::Ran(run(
+        return Ok(run(
             journal, image, records, rewind, forward, heads, nexts, ends, text,
         ));
     }
-    RunAnswer::Ran(run(
-        journal,
-        image,
-        records,
-        rewind,
-        forward,
-        &mut heads[..0],
-        nexts,
-        ends,
-        text,
+    let none = &mut heads[..0];
+    Ok(run(
+        journal, image, records, rewind, forward, none, nexts, ends, text,
     ))
 }

@@ -30,16 +30,15 @@ use Rattle.chain.specs.declared.way.Climbed.{Climbed}
 use Rattle.chain.proofs.WayLaws.{climbed-names, climbed-resolved, climbed-places, climbed-slots}
 use Rattle.path.proofs.WayLaws.{climbed-asks}
 use Rattle.path.specs.Promise.{WayAsks, Behinds}
-use Rattle.path.specs.declared.ways.Behind.{Behind}
-use Rattle.path.specs.declared.ways.Behind.TheVariants as put
 use Rattle.additions.specs.Entries.{forward}
 use Rattle.rewind_steps.specs.Taking.{Step, step_with}
 use Rattle.rewind_steps.specs.StepText.{record_text, step_with_text}
 use Rattle.additions.specs.declared.entries.RecordEntry.{RecordEntry}
 use Rattle.rewind_steps.specs.Making.{making, table_after}
 use Rattle.rewind_steps.specs.Promise.{StepAsks, StepLeaves}
-use Rattle.rewind_steps.specs.declared.Made.{Made}
-use Rattle.rewind_steps.specs.declared.Made.TheVariants.{To, Refused}
+use Rattle.rewind_records.specs.Turning.{Next, next}
+use Rattle.rewind_steps.specs.declared.Told.{Told}
+use Rattle.std.specs.Prelude.{Option, None, Some}
 
 -- what a step asks is enough for the way up, and for its text
 pub tell-asks : {journal image : List ℕ} {t : Table} {heads nexts : List ℕ} {name : NamePlace} {way : List ℕ} {at : ℕ} {text : List ℕ}
@@ -70,27 +69,27 @@ module _ (journal image : List ℕ) (u : Table) (parent : EntryKey) (name : Name
   unfolding entry_text record_text
   same_text = refl
 
-  module _ (m : ℕ) (nexts : List ℕ) (t : Table) {v : Behind} {y : List ℕ} (told : Behinds (entry_text journal image (chain_by u.words way' p) name) text at v y) where
+  module _ (m : ℕ) (nexts : List ℕ) (t : Table) {v : Option ℕ} {y : List ℕ} (told : Behinds (entry_text journal image (chain_by u.words way' p) name) text at v y) where
     g : Behinds more text at v y
     g = rw up.chain-is at told
 
-    abbrev Leaves : Made → List ℕ → List ℕ → List ℕ → List ℕ → List ℕ → Type 0
+    abbrev Leaves : Outcome (Next Told) → List ℕ → List ℕ → List ℕ → List ℕ → List ℕ → Type 0
     Leaves = StepLeaves journal image at m nexts text (step_with_text journal image u parent name (length text - at)) t
 
-    pub tell-to : {to : ℕ} {h n : List ℕ} {q : ResolvedPath} → v ≡ put.To to → q ≡ resolved_by p → h ≡ heads_of m u → n ≡ nexts_of m u nexts → Leaves (To to u.used q) u.words h n way' y
+    pub tell-to : {to : ℕ} {h n : List ℕ} {q : ResolvedPath} → v ≡ Some to → q ≡ resolved_by p → h ≡ heads_of m u → n ≡ nexts_of m u nexts → Leaves (answered (next (record { at = to; used = u.used; path = q }))) u.words h n way' y
     tell-to {to} {h} {n} {q} f eq eh en = go (ltb (length text - at) (length more)) refl
       where
-        go : (b : Bool) → ltb (length text - at) (length more) ≡ b → Leaves (To to u.used q) u.words h n way' y
-        go true l = let z : put.To to ≡ put.Full = sym f ∙ g.answer ∙ rw l in let z : ◌≡◌ {A = ℕ} 0 1 = cc in absurd (omega arith)
+        go : (b : Bool) → ltb (length text - at) (length more) ≡ b → Leaves (answered (next (record { at = to; used = u.used; path = q }))) u.words h n way' y
+        go true l = let z : Some to ≡ None = sym f ∙ g.answer ∙ rw l in let z : ◌≡◌ {A = ℕ} 0 1 = cc in absurd (omega arith)
         go false l =
             let l' : ltb (length text - at) (length (record_text journal image step)) ≡ false = rw (← same_text) l in
-            let is : put.To to ≡ put.To (at + length more) = sym f ∙ g.answer ∙ rw l in
+            let is : Some to ≡ Some (at + length more) = sym f ∙ g.answer ∙ rw l in
             let to-more : to ≡ at + length more = cc in
             let to_is : to ≡ at + length (record_text journal image step) = to-more ∙ ap (λ (x : List ℕ). at + length x) same_text in
             let text-is : y ≡ sets text at more = g.written ∙ rw l in
             rw l'
             (record {
-              answer = λ i. To (to_is i) u.used ((eq ∙ climbed-resolved u parent up) i);
+              answer = λ i. answered (next (record { at = to_is i; used = u.used; path = (eq ∙ climbed-resolved u parent up) i }));
               forward = refl;
               heads-are = eh;
               nexts-are = en;
@@ -98,36 +97,36 @@ module _ (journal image : List ℕ) (u : Table) (parent : EntryKey) (name : Name
               text-is = text-is ∙ ap (sets text at) same_text;
             })
 
-    pub tell-full : {f h n : List ℕ} → v ≡ put.Full → f ≡ t.words → h ≡ heads_of m t → n ≡ nexts_of m t nexts → Leaves (Refused text_full) f h n way' y
+    pub tell-full : {f h n : List ℕ} → v ≡ None → f ≡ t.words → h ≡ heads_of m t → n ≡ nexts_of m t nexts → Leaves (refused text_full) f h n way' y
     tell-full {f} {h} {n} e ef eh en = go (ltb (length text - at) (length more)) refl
       where
-        go : (b : Bool) → ltb (length text - at) (length more) ≡ b → Leaves (Refused text_full) f h n way' y
+        go : (b : Bool) → ltb (length text - at) (length more) ≡ b → Leaves (refused text_full) f h n way' y
         go true l =
             let l' : ltb (length text - at) (length (record_text journal image step)) ≡ true = rw (← same_text) l in
             let text-is : y ≡ text = g.written ∙ rw l in
             rw l' (record { answer = refl; forward = ef; heads-are = eh; nexts-are = en; way-is = tt; text-is = text-is })
         go false l =
-            let z : put.Full ≡ put.To (at + length more) = sym e ∙ g.answer ∙ rw l in
+            let z : None ≡ Some (at + length more) = sym e ∙ g.answer ∙ rw l in
             let z : ◌≡◌ {A = ℕ} 0 1 = cc in
             absurd (omega arith)
 
 -- a step with the record that is next
 module _ (journal image : List ℕ) (t : Table) (e : RecordEntry) (text : List ℕ) (at : ℕ) (heads nexts : List ℕ) where
-  abbrev Makes : Made → List ℕ → List ℕ → List ℕ → List ℕ → List ℕ → Type 0
+  abbrev Makes : Outcome (Next Told) → List ℕ → List ℕ → List ℕ → List ℕ → List ℕ → Type 0
   Makes = StepLeaves journal image at (length heads) nexts text (making journal image t e (length text - at)) t
 
   module _ (fits : t.used ≤ slots_in t.words) (index : Indexed t heads nexts) where
     -- nothing is changed where no slot is left
-    full : {k : ℕ} {way : List ℕ} → adding t (forward e ∷ []) ≡ refused k → Makes (Refused k) t.words heads nexts way text
+    full : {k : ℕ} {way : List ℕ} → adding t (forward e ∷ []) ≡ refused k → Makes (refused k) t.words heads nexts way text
     full g = rw g (record { answer = refl; forward = refl; heads-are = index.0; nexts-are = index.1; way-is = tt; text-is = refl })
 
-    pub make-none : {slot : ℕ} {way : List ℕ} → slot ≡ slot_for t e.key → slots_in t.words ≤ slot → Makes (Refused table_full) t.words heads nexts way text
+    pub make-none : {slot : ℕ} {way : List ℕ} → slot ≡ slot_for t e.key → slots_in t.words ≤ slot → Makes (refused table_full) t.words heads nexts way text
     make-none q h = full (slot-full t (forward e) fits (rw q at h))
 
     module _ {a : Addition} {o : Outcome ℕ} {s h n : List ℕ} (q : a ≡ forward e) (x : o ≡ used_after (adding t (a ∷ [])))
         (z : s ≡ words_after (adding t (a ∷ [])) t.words) (zh : h ≡ heads_after (adding t (a ∷ [])) heads)
         (zn : n ≡ nexts_after (length heads) (adding t (a ∷ [])) nexts) where
-      pub make-refused : {k : ℕ} {way : List ℕ} → o ≡ refused k → Makes (Refused k) s h n way text
+      pub make-refused : {k : ℕ} {way : List ℕ} → o ≡ refused k → Makes (refused k) s h n way text
       make-refused {k} y =
           let f : adding t (a ∷ []) ≡ refused k = (added_none t a x z y).0 in
           let eh : h ≡ heads = zh ∙ ap (λ (p : Outcome Table). heads_after p heads) f in
@@ -196,7 +195,7 @@ module _ (journal image : List ℕ) (t : Table) (e : RecordEntry) (text : List �
             λ i. record { words = same i; used = t.used }
 
         pub make-written : {slot : ℕ} {key : EntryKey} {info : EntryInfo} → slot ≡ slot_for t e.key → key ≡ key_at t.words slot → info ≡ info_at t.words slot
-            → {r : Made} {f' h' n' w' x' : List ℕ}
+            → {r : Outcome (Next Told)} {f' h' n' w' x' : List ℕ}
             → StepLeaves journal image at (length h) n text (step_with_text journal image (table s k) e.info.parent e.info.name (length text - at)) (table (put_at s slot key info) t.used) r f' h' n' w' x'
             → Makes r f' h' n' w' x'
         make-written qs qk qi c =

@@ -11,15 +11,14 @@ ghost use Rattle.entry_slots.specs.Table.{table};
 ghost use Rattle.rewind_steps.specs.Promise.{StepAsks, TellPromise, MakePromise};
 
 use additions::entries::{RecordEntry, replaces_forward};
-use base::{TABLE_FULL, TEXT_FULL};
+use base::refusal::Refusal;
 use chain::ResolvedPath;
 use chain::way::{climb, resolved};
 use entry_slots::links::{build, seek, slot_of};
 use entry_slots::slots::{STRIDE, info_at, key_at, put};
 use entry_slots::{EntryInfo, EntryKey};
-use entry_table::Stored;
 use entry_table::adding::add_found;
-use path::ways::{Behind, put_behind};
+use path::ways::put_behind;
 
 // Where a rewind stands: how many slots of the forward table are used, and where the text so far ends.
 #[derive(Clone, Copy)]
@@ -28,17 +27,13 @@ pub struct Stand {
     pub at: usize,
 }
 
-// What a step comes to: where its text ends and how many slots are used then, with the names and the end of its parent's path, whose
-// slots the way has; that no record is left; or a refusal's number.
+// A step that is made: where its text ends and how many slots are used then, with the names and the end of its parent's path, whose slots
+// the way has.
 #[derive(Clone, Copy)]
-pub enum Made {
-    To {
-        at: usize,
-        used: usize,
-        path: ResolvedPath,
-    },
-    End,
-    Refused(u32),
+pub struct Told {
+    pub at: usize,
+    pub used: usize,
+    pub path: ResolvedPath,
 }
 
 // What a table held before a record went into it: what stood in the record's slot, and how many slots were used.
@@ -69,7 +64,7 @@ fn tell(
     nexts: &mut [u64],
     way: &mut [usize],
     text: &mut [u8],
-) -> Made
+) -> Result<Told, Refusal>
     requires step_asks { StepAsks journal.now image.now (table forward.old stand.used) heads.old nexts.old entered.info.name way.old stand.at text.old }
     requires slot_bound { (entered.held.slot < slots_in forward.old) × (entered.held.used ≤ slots_in forward.old) }
     ensures { TellPromise journal image forward heads nexts way text stand.at stand.used entered result }
@@ -78,18 +73,15 @@ fn tell(
     let held = entered.held;
     let up = climb(forward, stand.used, heads, nexts, info.parent, way);
     match put_behind(journal, image, forward, way, up, info.name, text, stand.at) {
-        Behind::To(to) => {
-            let path = resolved(up);
-            Made::To {
-                at: to,
-                used: stand.used,
-                path,
-            }
-        }
-        Behind::Full => {
+        Some(at) => Ok(Told {
+            at,
+            used: stand.used,
+            path: resolved(up),
+        }),
+        None => {
             put(forward, held.slot, held.key, held.info);
             build(forward, held.used, heads, nexts);
-            Made::Refused(TEXT_FULL)
+            Err(Refusal::TextFull)
         }
     }
 }
@@ -105,7 +97,7 @@ pub fn make_step(
     nexts: &mut [u64],
     way: &mut [usize],
     text: &mut [u8],
-) -> Made
+) -> Result<Told, Refusal>
     requires { StepAsks journal.now image.now (table forward.old stand.used) heads.old nexts.old entry.info.name way.old stand.at text.old }
     ensures { MakePromise journal image forward heads nexts way text stand.at entry stand.used result }
 {
@@ -113,17 +105,15 @@ pub fn make_step(
     let found = seek(forward, used, heads, nexts, entry.key);
     let slot = slot_of(found, used);
     if forward.len() / STRIDE <= slot {
-        return Made::Refused(TABLE_FULL);
+        return Err(Refusal::TableFull);
     }
-    let key = key_at(forward, slot);
-    let info = info_at(forward, slot);
     let held = Held {
         slot,
-        key,
-        info,
+        key: key_at(forward, slot),
+        info: info_at(forward, slot),
         used,
     };
-    match add_found(
+    let used = add_found(
         forward,
         used,
         heads,
@@ -132,24 +122,13 @@ pub fn make_step(
         entry.info,
         replaces_forward(entry),
         found,
-    ) {
-        Stored::Refused(n) => Made::Refused(n),
-        Stored::Used(n) => {
-            let record = entry.info;
-            tell(
-                journal,
-                image,
-                Entered { info: record, held },
-                Stand {
-                    used: n,
-                    at: stand.at,
-                },
-                forward,
-                heads,
-                nexts,
-                way,
-                text,
-            )
-        }
-    }
+    )?;
+    let entered = Entered {
+        info: entry.info,
+        held,
+    };
+    let stand = Stand { used, at: stand.at };
+    tell(
+        journal, image, entered, stand, forward, heads, nexts, way, text,
+    )
 }

@@ -13,7 +13,6 @@ use Rattle.entry_slots.specs.Slots.{slots_in}
 use Rattle.entry_slots.specs.Table.{Table, table}
 use Rattle.entry_slots.specs.Index.{heads_of, nexts_of}
 use Rattle.entry_table.proofs.SeedLaws.{heads-long, nexts-long, index-again, index-then}
-use Rattle.chain.specs.declared.ResolvedPath.{ResolvedPath}
 use Rattle.rewind_records.specs.Environment.{environment_of, rewind_refusal}
 use Rattle.additions.specs.Walking.{records_in}
 use Rattle.rewind_records.specs.Turning.{Next, ended, next}
@@ -23,12 +22,15 @@ use Rattle.rewind_steps.specs.StepText.{record_text}
 use Rattle.rewind.specs.Written.{stepped_with_text}
 use Rattle.rewind.specs.declared.Rewind.{Rewind}
 use Rattle.run_steps.specs.declared.RewindRun.{RewindRun}
-use Rattle.run_steps.specs.Running.{Run, run_from, onward, running, ran}
-use Rattle.rewind_steps.specs.Making.{made_of}
+use Rattle.run_steps.specs.Running.{Run, run_from, stop_number, onward, running, ran}
+use Rattle.rewind_steps.specs.Making.{told_of, made_of}
 use Rattle.rewind_steps.specs.Promise.{StepLeaves}
 use Rattle.run_steps.specs.Promise.{RunAsks, RunLeaves}
-use Rattle.rewind_steps.specs.declared.Made.{Made}
-use Rattle.rewind_steps.specs.declared.Made.TheVariants.{To, End, Refused}
+use Rattle.std.specs.Prelude.{Result, Ok, Err, Option, None, Some}
+use Rattle.base.specs.Refusals.{number_of}
+use Rattle.base.specs.declared.refusal.Refusal.{Refusal}
+use Rattle.rewind_records.specs.Turning.{next_outcome}
+use Rattle.rewind_steps.specs.declared.Told.{Told}
 use Rattle.run_steps.proofs.StepLaws.{MadeStep, made-step}
 
 -- what is written behind what is written
@@ -58,21 +60,21 @@ now_at words used position texts marks = stop_at words used position texts marks
 
 -- what a step's answer says of what it comes to
 module _ (journal image : List ℕ) (at : ℕ) where
-  ended_of : (o : Outcome (Next Step)) → End ≡ made_of journal image at o → o ≡ answered ended
+  ended_of : (o : Outcome (Next Step)) → answered ended ≡ made_of journal image at o → o ≡ answered ended
   ended_of (refused n) e = let z : ◌≡◌ {A = ℕ} 0 1 = cc in absurd (omega arith)
   ended_of (answered ended) e = refl
   ended_of (answered (next x)) e = let z : ◌≡◌ {A = ℕ} 0 1 = cc in absurd (omega arith)
 
-  refused-of : {k : ℕ} (o : Outcome (Next Step)) → Refused k ≡ made_of journal image at o → o ≡ refused k
-  refused-of (refused n) e = cc
+  refused-of : {k : ℕ} (o : Outcome (Next Step)) → refused k ≡ made_of journal image at o → o ≡ refused k
+  refused-of {k} (refused n) e = let same : k ≡ n = cc in sym (ap refused same)
   refused-of (answered ended) e = let z : ◌≡◌ {A = ℕ} 0 1 = cc in absurd (omega arith)
   refused-of (answered (next x)) e = let z : ◌≡◌ {A = ℕ} 0 1 = cc in absurd (omega arith)
 
-  next-of : {A : Type 0} {to k : ℕ} {p : ResolvedPath} (o : Outcome (Next Step)) → To to k p ≡ made_of journal image at o
-      → ((x : Step) → o ≡ answered (next x) → to ≡ at + length (record_text journal image x) → k ≡ x.table.used → A) → A
+  next-of : {A : Type 0} {told : Told} (o : Outcome (Next Step)) → answered (next told) ≡ made_of journal image at o
+      → ((x : Step) → o ≡ answered (next x) → told ≡ told_of journal image at x → A) → A
   next-of (refused n) e f = let z : ◌≡◌ {A = ℕ} 0 1 = cc in absurd (omega arith)
   next-of (answered ended) e f = let z : ◌≡◌ {A = ℕ} 0 1 = cc in absurd (omega arith)
-  next-of (answered (next x)) e f = f x refl (cc) (cc)
+  next-of (answered (next x)) e f = f x refl cc
 
 module _ (journal image records words₀ : List ℕ) (r₀ : Rewind) (heads₀ nexts₀ ends₀ text₀ : List ℕ) where
   abbrev room : ℕ
@@ -159,12 +161,12 @@ module _ (journal image records words₀ : List ℕ) (r₀ : Rewind) (heads₀ n
     anew u eh en = index-then (length heads₀) (table words used) nexts₀ w.heads-are w.nexts-are {u = u} {o = answered u} refl eh en
 
     -- a run that stands here and is over
-    over : (k : ℕ) → all ≡ stop_at words used position w.texts w.marks k → {f h n x : List ℕ} → f ≡ words → h ≡ heads_of (length heads) (table words used)
+    over : (k : Option Refusal) → all ≡ stop_at words used position w.texts w.marks (stop_number k) → {f h n x : List ℕ} → f ≡ words → h ≡ heads_of (length heads) (table words used)
         → n ≡ nexts_of (length heads) (table words used) nexts → x ≡ text → Runs (record { steps = i; stopped = k; rewind = state_of used position }) f h n ends x
     over k e {f} {h} {n} {x} ef eh en ex =
         let both = anew (table words used) eh en in
         record {
-          answer = rw e (ap (λ (j : ℕ). record { steps = j; stopped = k; rewind = state_of used position }) w.i-is);
+          answer = rw e (ap (λ (j : ℕ). record { steps = j; stopped = stop_number k; rewind = state_of used position }) w.i-is);
           forward = rw e ef;
           heads-are = rw e both.0;
           nexts-are = rw e both.1;
@@ -173,11 +175,13 @@ module _ (journal image records words₀ : List ℕ) (r₀ : Rewind) (heads₀ n
         }
 
     -- all that were asked for are made
-    pub going-all : length ends ≤ i → Runs (record { steps = i; stopped = 0; rewind = state_of used position }) words heads nexts ends text
-    going-all h =
+    pub going-all : length ends ≤ i → {m : ℕ} → m ≡ length ends → Runs (record { steps = m; stopped = None; rewind = state_of used position }) words heads nexts ends text
+    going-all h {m} e =
         let n : 0 ≡ asked - i = omega (arith, w.ends-long) in
-        over 0 (sym (sym (run_none journal image records room now) ∙ ap (λ (k : ℕ). running journal image records room k now) n ∙ w.leads)) refl
-        going-asks.index.0 going-asks.index.1 refl
+        let same : m ≡ i = omega (arith, e, w.ends-long, w.i-room) in
+        rw same
+        (over None (sym (sym (run_none journal image records room now) ∙ ap (λ (k : ℕ). running journal image records room k now) n ∙ w.leads)) refl
+        going-asks.index.0 going-asks.index.1 refl)
 
     module _ (less : i < length ends) where
       abbrev o : Outcome (Next Step)
@@ -199,19 +203,22 @@ module _ (journal image records words₀ : List ℕ) (r₀ : Rewind) (heads₀ n
       turned e = sym turns ∙ ap (onward (running journal image records room rest) journal image now) e
 
       -- by what the step answers
-      pub going_end : {a : Made} {f h n way x : List ℕ} → a ≡ End → StepLeaves journal image at (length heads) nexts text o (table words used) a f h n way x
-          → Runs (record { steps = i; stopped = 0; rewind = state_of used position }) f h n ends x
-      going_end g c =
-          let e : o ≡ answered ended = ended_of journal image at o (sym g ∙ c.answer) in
-          let d = rw e at c in
-          over 0 (turned e) d.forward d.heads-are d.nexts-are d.text-is
+      abbrev Leaves : Result (Option Told) Refusal → List ℕ → List ℕ → List ℕ → List ℕ → List ℕ → Type 0
+      Leaves a = StepLeaves journal image at (length heads) nexts text o (table words used) (next_outcome a)
 
-      pub going-refused : {a : Made} {k : ℕ} {f h n way x : List ℕ} → a ≡ Refused k → StepLeaves journal image at (length heads) nexts text o (table words used) a f h n way x
-          → Runs (record { steps = i; stopped = k; rewind = state_of used position }) f h n ends x
-      going-refused {k = k} g c =
-          let e : o ≡ refused k = refused-of journal image at o (sym g ∙ c.answer) in
+      pub going_end : {a : Result (Option Told) Refusal} {f h n way x : List ℕ} → a ≡ Ok None → Leaves a f h n way x
+          → Runs (record { steps = i; stopped = None; rewind = state_of used position }) f h n ends x
+      going_end g c =
+          let e : o ≡ answered ended = ended_of journal image at o (sym (ap next_outcome g) ∙ c.answer) in
           let d = rw e at c in
-          over k (turned e) d.forward d.heads-are d.nexts-are d.text-is
+          over None (turned e) d.forward d.heads-are d.nexts-are d.text-is
+
+      pub going-refused : {a : Result (Option Told) Refusal} {k : Refusal} {f h n way x : List ℕ} → a ≡ Err k → Leaves a f h n way x
+          → Runs (record { steps = i; stopped = Some k; rewind = state_of used position }) f h n ends x
+      going-refused {k = k} g c =
+          let e : o ≡ refused (number_of k) = refused-of journal image at o (sym (ap next_outcome g) ∙ c.answer) in
+          let d = rw e at c in
+          over (Some k) (turned e) d.forward d.heads-are d.nexts-are d.text-is
 
       -- a step that is made leads on
       module _ {x : Step} (e : o ≡ answered (next x)) where
@@ -248,12 +255,12 @@ module _ (journal image records words₀ : List ℕ) (r₀ : Rewind) (heads₀ n
               wide = λ p. omega (arith, w.wide p, made.long);
             }
 
-      pub going-made : {a : Made} {to k : ℕ} {p : ResolvedPath} {f h n way y : List ℕ} → a ≡ To to k p → StepLeaves journal image at (length heads) nexts text o (table words used) a f h n way y
-          → Going f h n (set ends i to) y k (position + 1) to (i + 1)
+      pub going-made : {a : Result (Option Told) Refusal} {told : Told} {f h n way y : List ℕ} → a ≡ Ok (Some told) → Leaves a f h n way y
+          → Going f h n (set ends i told.at) y told.used (position + 1) told.at (i + 1)
       going-made g c =
-          next-of journal image at o (sym g ∙ c.answer)
-          (λ x e eto ek. let d = rw e at c in rw (d.forward, ek) (from-made e eto d.heads-are d.nexts-are d.text-is))
+          next-of journal image at o (sym (ap next_outcome g) ∙ c.answer)
+          (λ x e is. let d = rw e at c in rw (d.forward, ap (λ (t : Told). t.used) is) (from-made e (ap (λ (t : Told). t.at) is) d.heads-are d.nexts-are d.text-is))
 
       -- the position is below the records
-      pub going-near : {a : Made} {to k : ℕ} {p : ResolvedPath} → a ≡ To to k p → a ≡ made_of journal image at o → position < records_in records
-      going-near g q = next-of journal image at o (sym g ∙ q) (λ x e eto ek. (made e).near)
+      pub going-near : {a : Result (Option Told) Refusal} {told : Told} → a ≡ Ok (Some told) → next_outcome a ≡ made_of journal image at o → position < records_in records
+      going-near g q = next-of journal image at o (sym (ap next_outcome g) ∙ q) (λ x e is. (made e).near)

@@ -8,7 +8,7 @@ use native.Mathlib.Omega.{arith}
 use borrow.Author.Tests.{ltb-true, ltb-false}
 use lib.ListN.{length}
 use lib.Dec.{ltb}
-use Rattle.base.specs.Outcome.{Outcome, refused, answered, map_outcome}
+use Rattle.base.specs.Outcome.{Outcome, refused, answered, outcome, map_outcome}
 use Rattle.entry_slots.specs.Names.{lengths_of, inside}
 use Rattle.entry_slots.specs.Table.{Table, table}
 use Rattle.additions.specs.Storing.{adding}
@@ -21,7 +21,10 @@ use Rattle.path_text.proofs.CallLaws.{text-fits}
 use Rattle.additions.specs.Entries.{forward}
 use Rattle.rewind_records.specs.Environment.{Environment, environment_of, rewind_refusal}
 use Rattle.additions.specs.Walking.{records_in, offset_in, entry_in}
-use Rattle.rewind_records.specs.Turning.{ended, next, turning}
+use Rattle.rewind_records.specs.Turning.{Next, ended, next, next_outcome, turning}
+use Rattle.rewind_steps.specs.declared.Told.{Told}
+use Rattle.std.specs.Prelude.{Result, Option, Ok, Err, Some}
+use Rattle.base.specs.declared.refusal.Refusal.{Refusal}
 use Rattle.rewind_steps.specs.Taking.{Step, step_of}
 use Rattle.rewind.specs.Stepping.{stepped, state_of}
 use Rattle.rewind_steps.specs.StepText.{record_text, next_text}
@@ -32,8 +35,6 @@ use Rattle.rewind_records.proofs.RecordLaws.{number-answered}
 use Rattle.rewind_records.proofs.TurnLaws.{Passed, passed, test-none, turn_end, turn-next}
 use Rattle.rewind_steps.specs.Making.{making}
 use Rattle.rewind_steps.specs.Promise.{StepLeaves}
-use Rattle.rewind_steps.specs.declared.Made.{Made}
-use Rattle.rewind_steps.specs.declared.Made.TheVariants.{End}
 
 module _ (journal image l words : List ℕ) (used position : ℕ) (pass : rewind_refusal (environment_of journal image l) (table words used) ≡ 0) where
   abbrev env : Environment
@@ -48,28 +49,42 @@ module _ (journal image l words : List ℕ) (used position : ℕ) (pass : rewind
   -- no record is left
   pub with-text-end : (room : ℕ) → records_in l ≤ position → stepped_with_text journal image l words (state_of used position) room ≡ answered ended
   with-text-end room k =
-      let e : turning env t position ≡ answered ended = sym (turn_end journal l (length image) position t (sym pass) refl k) in
+      let e : turning env t position ≡ answered ended = sym (turn_end journal l (length image) position t pass k) in
       let o : stepped journal image l words (state_of used position) ≡ answered ended = rw e in
       text-fits (next_text journal image) room o (omega arith)
 
   pub step_end : (at : ℕ) (heads nexts text : List ℕ) {way : List ℕ} → Indexed t heads nexts → records_in l ≤ position
-      → StepLeaves journal image at (length heads) nexts text (stepped_with_text journal image l words (state_of used position) (length text - at)) t End words heads nexts way text
+      → StepLeaves journal image at (length heads) nexts text (stepped_with_text journal image l words (state_of used position) (length text - at)) t (answered ended) words heads nexts way text
   step_end at heads nexts text index k = rw (with-text-end (length text - at) k) (record { answer = refl; forward = refl; heads-are = index.0; nexts-are = index.1; way-is = tt; text-is = refl })
 
   module _ {e : RecordEntry} (near : position < records_in l) (is : e ≡ entry_in journal l position) where
     -- the next record is the one at the position, and its name is inside
     pub with-text-next : (room : ℕ) → stepped_with_text journal image l words (state_of used position) room ≡ making journal image t e room
     with-text-next room =
-        let f : turning env t position ≡ answered (next e) = sym (turn-next journal l (length image) position t (sym pass) refl near is) in
+        let f : turning env t position ≡ answered (next e) = sym (turn-next journal l (length image) position t pass near is) in
         rw f
 
     pub own-inside : inside (lengths_of journal image) e.info.name ≡ true
     own-inside = rw is (entry-inside journal (length image) (offset_in l position) (number-answered journal l tests.records near))
 
-    pub step-next : (at : ℕ) (heads nexts text : List ℕ) {r : Made} {f h n way x : List ℕ}
+    pub step-next : (at : ℕ) (heads nexts text : List ℕ) {r : Outcome (Next Told)} {f h n way x : List ℕ}
         → StepLeaves journal image at (length heads) nexts text (making journal image t e (length text - at)) t r f h n way x
         → StepLeaves journal image at (length heads) nexts text (stepped_with_text journal image l words (state_of used position) (length text - at)) t r f h n way x
     step-next at heads nexts text c = rw (with-text-next (length text - at)) c
+
+    -- what making it answers is what the step answers
+    module _ (at : ℕ) (heads nexts text : List ℕ) where
+      abbrev Leaves : Outcome (Next Told) → List ℕ → List ℕ → List ℕ → List ℕ → List ℕ → Type 0
+      Leaves a = StepLeaves journal image at (length heads) nexts text (stepped_with_text journal image l words (state_of used position) (length text - at)) t a
+
+      abbrev Makes : Result Told Refusal → List ℕ → List ℕ → List ℕ → List ℕ → List ℕ → Type 0
+      Makes r = StepLeaves journal image at (length heads) nexts text (making journal image t e (length text - at)) t (map_outcome next (outcome r))
+
+      pub step-told : {r : Result Told Refusal} {f h n way x : List ℕ} → Makes r f h n way x → {told : Told} → r ≡ Ok told → Leaves (answered (next told)) f h n way x
+      step-told c y = rw y at (step-next at heads nexts text c)
+
+      pub step-refused : {r : Result Told Refusal} {f h n way x : List ℕ} → Makes r f h n way x → {k : Refusal} → r ≡ Err k → {a : Result (Option Told) Refusal} → a ≡ Err k → Leaves (next_outcome a) f h n way x
+      step-refused c y z = rw z (rw y at (step-next at heads nexts text c))
 
   -- what holds of a step that is made
   pub record MadeStep (room : ℕ) (x : Step) : Type 0 where

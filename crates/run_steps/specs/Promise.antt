@@ -1,5 +1,5 @@
 -- What a run of steps, and each step of it, asks and promises, of what the lent slices hold before, and, with ', after.
-use Rattle.std.specs.Prelude.{ℕ, ◌-◌, ◌<◌, ◌≤◌, ◌≡◌, List, length}
+use Rattle.std.specs.Prelude.{ℕ, ◌-◌, ◌<◌, ◌≤◌, ◌≡◌, List, length, Result, Option}
 use Rattle.base.specs.Lent.{Lent, MutLent, before, before_mut, after}
 use Rattle.base.specs.Lists.{overwrite}
 use Rattle.entry_slots.specs.Slots.{slots_in}
@@ -9,8 +9,10 @@ use Rattle.rewind.specs.Stepping.{forward_table}
 use Rattle.rewind.specs.Written.{stepped_with_text}
 use Rattle.rewind.specs.declared.Rewind.{Rewind}
 use Rattle.rewind_steps.specs.Promise.{StepPromise}
-use Rattle.rewind_steps.specs.declared.Made.{Made}
-use Rattle.run_steps.specs.Running.{Run, ran, run_answer, run_table}
+use Rattle.rewind_records.specs.Turning.{next_outcome}
+use Rattle.rewind_steps.specs.declared.Told.{Told}
+use Rattle.base.specs.declared.refusal.Refusal.{Refusal}
+use Rattle.run_steps.specs.Running.{Run, ran, run_numbers, run_answer, run_table}
 use Rattle.run_steps.specs.declared.RewindRun.{RewindRun}
 use Rattle.run_steps.specs.declared.Standing.{Standing}
 
@@ -21,10 +23,10 @@ pub record RunAsks (journal image records words : List ℕ) (rewind : Rewind) (h
   pub wide : 0 < length heads → slots_in words ≤ length nexts
 
 -- the next step of a run
-abbrev pub RunStepPromise : Lent → Lent → MutLent → MutLent → MutLent → MutLent → MutLent → Lent → Standing → Made → Type 0
-RunStepPromise journal image forward heads nexts way text records standing =
+abbrev pub RunStepPromise : Lent → Lent → MutLent → MutLent → MutLent → MutLent → MutLent → Lent → Standing → Result (Option Told) Refusal → Type 0
+RunStepPromise journal image forward heads nexts way text records standing r =
     let o = stepped_with_text (before journal) (before image) (before records) (before_mut forward) standing.rewind (length (before_mut text) - standing.at) in
-    StepPromise journal image forward heads nexts way text standing.at o (forward_table (before_mut forward) standing.rewind)
+    StepPromise journal image forward heads nexts way text standing.at o (forward_table (before_mut forward) standing.rewind) (next_outcome r)
 
 -- many steps: their run, and what is left of it where the tests have passed
 module _ (journal image records words : List ℕ) (rewind : Rewind) (heads nexts ends text : List ℕ) where
@@ -32,7 +34,7 @@ module _ (journal image records words : List ℕ) (rewind : Rewind) (heads nexts
   run_made = ran journal image records words rewind (length text) (length ends)
 
   pub record RunLeaves (r : RewindRun) (words' heads' nexts' ends' text' : List ℕ) : Type 0 where
-    pub answer : r ≡ run_answer run_made
+    pub answer : run_numbers r ≡ run_answer run_made
     pub forward : words' ≡ run_made.words
     pub heads-are : heads' ≡ heads_of (length heads) (run_table run_made)
     pub nexts-are : nexts' ≡ nexts_of (length heads) (run_table run_made) nexts

@@ -1,7 +1,9 @@
 -- Many steps of a rewind, where the tests have passed: each is a step with text, which goes behind the texts before it. A run stops before a step that is
 -- refused, at the end of the records, or when as many steps are made as were asked for.
-use Rattle.std.specs.Prelude.{ℕ, zero, suc, ◌+◌, ◌-◌, List, [], ◌∷◌, ◌++◌, length}
+use Rattle.std.specs.Prelude.{ℕ, zero, suc, ◌+◌, ◌-◌, List, [], ◌∷◌, ◌++◌, length, Option, None, Some}
 use Rattle.base.specs.Outcome.{Outcome, refused, answered}
+use Rattle.base.specs.Refusals.{number_of}
+use Rattle.base.specs.declared.refusal.Refusal.{Refusal}
 use Rattle.entry_slots.specs.Table.{Table}
 use Rattle.rewind_records.specs.Turning.{Next, ended, next}
 use Rattle.rewind_steps.specs.Taking.{Step}
@@ -53,9 +55,23 @@ running journal image records room (suc n) r =
 abbrev pub ran : List ℕ → List ℕ → List ℕ → List ℕ → Rewind → ℕ → ℕ → Run
 ran journal image records words r room asked = running journal image records room asked (run_from words r)
 
--- what it answers of its run
-abbrev pub run_answer : Run → RewindRun
+-- what is said of a run: how many steps were made, 0 or the number of the refusal that stopped it, and the rewind after it
+pub record RunNumbers : Type 0 where
+  pub steps : ℕ
+  pub stopped : ℕ
+  pub rewind : Rewind
+
+-- what a call answers of its run
+abbrev pub run_answer : Run → RunNumbers
 run_answer r = record { steps = length r.ends; stopped = r.stopped; rewind = r.rewind }
+
+-- and what its answer says
+abbrev pub stop_number : Option Refusal → ℕ
+stop_number None = 0
+stop_number (Some r) = number_of r
+
+abbrev pub run_numbers : RewindRun → RunNumbers
+run_numbers r = record { steps = r.steps; stopped = stop_number r.stopped; rewind = r.rewind }
 
 -- the forward table after it
 abbrev pub run_table : Run → Table

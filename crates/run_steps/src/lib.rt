@@ -4,22 +4,25 @@
 // the table's, and keep both. Heads of length 0 are no index.
 #![tactic(auto)]
 
+pub mod words;
+
 ghost use Rattle.std.specs.Prelude.{◌≤◌, ◌<◌, length};
 ghost use Rattle.chain.specs.Settings.{levels};
 ghost use Rattle.run_steps.specs.Promise.{RunStepPromise, RunAsks, StepsPromise};
 
 use additions::entries::entry_at;
+use base::refusal::Refusal;
 use chain::way::WAY_WORDS;
 use read_ahead::ahead_forward;
 use rewind::Rewind;
-use rewind_steps::{Made, Stand, make_step};
+use rewind_steps::{Stand, Told, make_step};
 
-// A run of steps: how many were made, 0 or what stopped it before the next one, 6 or 8, and the rewind after the last one that was
-// made.
+// A run of steps: how many were made, what stopped it before the next one, 6 or 8, if that was a refusal, and the rewind after the last
+// one that was made.
 #[derive(Clone, Copy)]
 pub struct RewindRun {
     pub steps: usize,
-    pub stopped: u32,
+    pub stopped: Option<Refusal>,
     pub rewind: Rewind,
 }
 
@@ -41,7 +44,7 @@ fn run_step(
     nexts: &mut [u64],
     way: &mut [usize],
     text: &mut [u8],
-) -> Made
+) -> Result<Option<Told>, Refusal>
     requires run_asks { RunAsks journal.now image.now records.now forward.old standing.rewind heads.old nexts.old }
     requires levels_in_bounds { (levels < length way.old) × (standing.at ≤ length text.old) }
     ensures { RunStepPromise journal image forward heads nexts way text records standing result }
@@ -49,16 +52,17 @@ fn run_step(
     let rewind = standing.rewind;
     let position = rewind.position;
     if records.len() / 2 <= position {
-        return Made::End;
+        return Ok(None);
     }
     let entry = entry_at(journal, records[position * 2]);
     let stand = Stand {
         used: rewind.used,
         at: standing.at,
     };
-    make_step(
+    let told = make_step(
         journal, image, entry, stand, forward, heads, nexts, way, text,
-    )
+    )?;
+    Ok(Some(told))
 }
 
 // As many steps as there are words for the ends of their texts, where the tests have passed.
@@ -79,10 +83,9 @@ pub fn run(
     let mut used = rewind.used;
     let mut position = rewind.position;
     let mut at: usize = 0;
-    let mut i: usize = 0;
     let mut read: usize = 0;
     let mut way: [usize; WAY_WORDS] = [0; WAY_WORDS];
-    while i < ends.len() {
+    for i in 0..ends.len() {
         read = ahead_forward(
             journal, image, records, position, read, forward, heads, nexts,
         );
@@ -93,36 +96,31 @@ pub fn run(
         match run_step(
             journal, image, records, standing, forward, heads, nexts, &mut way, text,
         ) {
-            Made::To {
-                at: to,
-                used: n,
-                ..
-            } => {
-                ends[i] = to as u64;
-                at = to;
-                used = n;
+            Ok(Some(told)) => {
+                ends[i] = told.at as u64;
+                at = told.at;
+                used = told.used;
                 position += 1;
-                i += 1;
             }
-            Made::End => {
+            Ok(None) => {
                 return RewindRun {
                     steps: i,
-                    stopped: 0,
+                    stopped: None,
                     rewind: Rewind { used, position },
                 };
             }
-            Made::Refused(n) => {
+            Err(refusal) => {
                 return RewindRun {
                     steps: i,
-                    stopped: n,
+                    stopped: Some(refusal),
                     rewind: Rewind { used, position },
                 };
             }
         }
     }
     RewindRun {
-        steps: i,
-        stopped: 0,
+        steps: ends.len(),
+        stopped: None,
         rewind: Rewind { used, position },
     }
 }

@@ -16,9 +16,12 @@ ghost use Rattle.volume_answers.specs.Key.{key_of};
 ghost use Rattle.table_ffi.specs.Promise.{StorePromise, SeedCallPromise, SeedIndexedCallPromise};
 ghost use Rattle.table_ffi.specs.Table.{info_of};
 
-use base::LIST_FULL;
+use base::refusal::Refusal;
+use base::words::put_answer;
 use entry_slots::{EntryInfo, EntryKey, NamePlace};
-use volume_answers::answers::{USED_WORDS, put_used};
+
+// The words of what storing answers.
+const USED_WORDS: usize = 1;
 
 // An entry under its key into a table of seven words a slot, of which used are used, in place of a known one: its parent, and its
 // name's source (0 the journal, any other the image), offset and length in bytes. A word of out: the used slots after it.
@@ -42,9 +45,9 @@ pub extern "C" fn table_insert(
     ensures { StorePromise journal image slots used (key_of entry sequence) (info_of parent_entry parent_sequence source offset length) true out result }
 {
     if out.len() < USED_WORDS {
-        return LIST_FULL;
+        return Refusal::ListFull.number();
     }
-    put_used(
+    put_answer(
         entry_table::insert(
             journal,
             image,
@@ -76,9 +79,9 @@ pub extern "C" fn table_insert_if_absent(
     ensures { StorePromise journal image slots used (key_of entry sequence) (info_of parent_entry parent_sequence source offset length) false out result }
 {
     if out.len() < USED_WORDS {
-        return LIST_FULL;
+        return Refusal::ListFull.number();
     }
-    put_used(
+    put_answer(
         entry_table::insert_if_absent(
             journal,
             image,
@@ -107,9 +110,9 @@ pub extern "C" fn table_seed(
     ensures { SeedCallPromise journal image slots used entries out result }
 {
     if out.len() < USED_WORDS {
-        return LIST_FULL;
+        return Refusal::ListFull.number();
     }
-    put_used(entry_table::seed(journal, image, slots, used, entries), out)
+    put_answer(entry_table::seed(journal, image, slots, used, entries), out)
 }
 
 // What table_seed does, by way of an index in the words of heads and nexts, whatever they hold.
@@ -128,15 +131,15 @@ pub extern "C" fn table_seed_indexed(
     ensures { SeedIndexedCallPromise journal image slots used entries heads nexts out result }
 {
     if out.len() < USED_WORDS {
-        return LIST_FULL;
+        return Refusal::ListFull.number();
     }
-    put_used(
+    put_answer(
         entry_table::seed_indexed(journal, image, slots, used, entries, heads, nexts),
         out,
     )
 }
 
-// What is known of a key, from its numbers.
+// What is known of a key, from the numbers that C has of it: five of them, so that no From would do.
 fn entry_info(
     parent_entry: u64,
     parent_sequence: u64,

@@ -1,12 +1,14 @@
 -- The window over a journal as words, and what a reading of it says.
-use Rattle.std.specs.Prelude.{ℕ, List, [], ◌∷◌, cond, not, get_or, eqb}
+use Rattle.std.specs.Prelude.{ℕ, List, [], ◌∷◌, cond, not, get_or, eqb, Ok, Err}
 use Rattle.base.specs.Lent.{MutLent}
 use Rattle.base.specs.Outcome.{Outcome, refused, answered}
+use Rattle.base.specs.Refusals.{number_of}
 use Rattle.base.specs.Words.{ListPromise}
 use Rattle.usn_record.specs.Record.{record_words}
 use Rattle.usn_window.specs.declared.UsnJournalReader.{UsnJournalReader}
+use Rattle.usn_window.specs.Answers.{Answered}
 use Rattle.usn_window.specs.declared.Answer.{Answer}
-use Rattle.usn_window.specs.declared.Answer.TheVariants.{Record, Wants, End, Refused}
+use Rattle.usn_window.specs.declared.Answer.TheVariants.{Record, Wants, End}
 use Rattle.usn_window.specs.declared.Reading.{Reading}
 
 -- a window's numbers as six words; whether it has ended is 1 or 0
@@ -26,11 +28,15 @@ reader_of l =
     }
 
 -- an answer as words, its kind first: 0 the end, 1 the bytes that are wanted, 2 a record, its place and its words
-unfoldable pub answer_words : Answer → List ℕ
-answer_words End = 0 ∷ 0 ∷ 0 ∷ []
-answer_words (Wants from bytes) = 1 ∷ from ∷ bytes ∷ []
-answer_words (Record offset n r) = 2 ∷ offset ∷ n ∷ record_words r
-answer_words (Refused n) = []
+abbrev pub given_words : Answer → List ℕ
+given_words End = 0 ∷ 0 ∷ 0 ∷ []
+given_words (Wants from bytes) = 1 ∷ from ∷ bytes ∷ []
+given_words (Record offset n r) = 2 ∷ offset ∷ n ∷ record_words r
+
+-- a refusal has none
+abbrev pub answer_words : Answered → List ℕ
+answer_words (Ok a) = given_words a
+answer_words (Err r) = []
 
 -- the words that a call leaves of a reading: the window's, and the answer's
 abbrev pub window_words : Reading → List ℕ
@@ -40,11 +46,9 @@ abbrev pub reading_words : Reading → List ℕ
 reading_words x = answer_words x.answer
 
 -- what a reading says: its refusal, or itself
-abbrev pub outcome_by : Answer → Reading → Outcome Reading
-outcome_by (Refused n) x = refused n
-outcome_by (Record o n r) x = answered x
-outcome_by (Wants f n) x = answered x
-outcome_by End x = answered x
+abbrev pub outcome_by : Answered → Reading → Outcome Reading
+outcome_by (Err r) x = refused (number_of r)
+outcome_by (Ok a) x = answered x
 
 abbrev pub reading_outcome : Reading → Outcome Reading
 reading_outcome x = outcome_by x.answer x

@@ -2,10 +2,9 @@
 ghost use Rattle.std.specs.Prelude.{◌≡◌, ◌≤◌, length};
 ghost use Rattle.base.specs.Outcome.{answered};
 ghost use Rattle.base.specs.Words.{AnswerPromise};
-ghost use Rattle.usn_answers.specs.Window.{reader_words, reader_of, reading_outcome, ReadingPromise};
+ghost use Rattle.usn_answers.specs.Window.{reader_words, reader_of, given_words, reading_outcome, ReadingPromise};
 
-use crate::record_words::row_of;
-use base::words::{put_row, put_rows};
+use base::words::{Row, put_row, put_rows};
 use usn_window::{Answer, Reading, UsnJournalReader};
 
 // The words of a window, and those of its longest answer, a record's.
@@ -13,7 +12,7 @@ pub const READER_WORDS: usize = 6;
 
 pub const READING_WORDS: usize = 22;
 
-// The first word of an answer.
+// The first word of an answer, as C reads it.
 const KIND_END: u64 = 0;
 
 const KIND_WANTS: u64 = 1;
@@ -58,30 +57,36 @@ fn reader_row(w: UsnJournalReader) -> [u64; READER_WORDS]
 }
 
 // A call's answer: 0 with the window's words and the answer's in front of the lent ones, or the refusal.
+#[inline(always)]
 pub fn put_reading(x: Reading, reader: &mut [u64], out: &mut [u64]) -> u32
     requires { (6 ≤ length reader.old) × (22 ≤ length out.old) }
     ensures { ReadingPromise (reading_outcome x) reader out result }
 {
-    let w = x.reader;
-    let answer = x.answer;
+    match x.answer {
+        Ok(answer) => {
+            put_given(answer, out);
+            put_reader(x.reader, reader)
+        }
+        Err(refusal) => refusal.number(),
+    }
+}
+
+// The words of what is answered in front of the lent ones. Answers 0. An answer is no `Row`: how many words it has goes by its kind.
+#[inline(always)]
+fn put_given(answer: Answer, out: &mut [u64]) -> u32
+    requires { 22 ≤ length out.old }
+    ensures { AnswerPromise given_words (answered answer) out result }
+{
     match answer {
-        Answer::Refused(n) => n,
-        Answer::End => {
-            put_row(&[KIND_END, 0, 0], out);
-            put_reader(w, reader)
-        }
-        Answer::Wants { from, bytes } => {
-            put_row(&[KIND_WANTS, from as u64, bytes as u64], out);
-            put_reader(w, reader)
-        }
+        Answer::End => put_row(&[KIND_END, 0, 0], out),
+        Answer::Wants { from, bytes } => put_row(&[KIND_WANTS, from as u64, bytes as u64], out),
         Answer::Record {
             offset,
             length,
             record,
         } => {
             let front = [KIND_RECORD, offset as u64, length as u64];
-            put_rows(&front, &row_of(record), out);
-            put_reader(w, reader)
+            put_rows(&front, &record.row(), out)
         }
     }
 }

@@ -1,4 +1,3 @@
-pub mod TimeLaws
 pub mod VisitLaws
 pub mod RunLaws
 pub mod SkipLaws

@@ -4,15 +4,17 @@ use Prim.Native.Nat.{ℕ, zero, suc, ◌+◌, ◌-◌, ◌*◌, ◌/◌, ◌%◌
 use mathlib.Core.Path.{◌≡◌, refl, ap, sym, ◌∙◌}
 use mathlib.Core.List.{List, [], ◌∷◌}
 use native.Mathlib.Omega.{arith}
+use Rattle.std.specs.Prelude.{count_by, cond}
+use Rattle.std.proofs.lemmas.List.Recursion.{is_count_by}
 use lib.ListN.{length}
 use Rattle.base.specs.Lists.{All}
 use Rattle.base.specs.Places.{round8}
 use Rattle.base.specs.Walk.{Visit, going_on, walk, from}
-use Rattle.base.proofs.WalkLaws.{Forward, Left, left}
+use Rattle.base.proofs.WalkLaws.{Forward, Costs, walk-bound, Left, left}
 use Rattle.usn_record.proofs.NameLaws.{fixed-low}
 use Rattle.usn_carver.specs.Settings.{Settings}
-use Rattle.usn_carver.specs.Events.{structure, time, Event, rejected, carved, records, structures, times}
-use Rattle.usn_carver.specs.Carve.{carver_visit, events, carved_places}
+use Rattle.usn_carver.specs.Events.{structure, time, Event, rejected, carved, records, is_carved, structures, times}
+use Rattle.usn_carver.specs.Carve.{carver_visit, events_from, events, carved_places}
 use Rattle.usn_carver.specs.Step.{carver_visit_of}
 use Rattle.usn_carver.specs.declared.step.CarveStep.{CarveStep}
 use Rattle.usn_carver.proofs.VisitLaws.{CandidateShape, stops, passes, rejects, carves, visit-shape}
@@ -23,6 +25,14 @@ candidates-add-up [] = refl
 candidates-add-up (rejected structure o v ∷ es) = omega (arith, candidates-add-up es)
 candidates-add-up (rejected time o v ∷ es) = omega (arith, candidates-add-up es)
 candidates-add-up (carved o v n ∷ es) = omega (arith, candidates-add-up es)
+
+-- so many are carved as there are records
+carved-one : (e : Event) (es : List Event) → length (records (e ∷ es)) ≡ cond (is_carved e) (1 + length (records es)) (length (records es))
+carved-one (rejected why o v) es = refl
+carved-one (carved o v n) es = omega arith
+
+pub carved-counted : (es : List Event) → count_by is_carved es ≡ length (records es)
+carved-counted es = sym (is_count_by (λ (xs : List Event). length (records xs)) is_carved refl carved-one es)
 
 -- an event at a multiple of 8
 abbrev pub Aligned : Event → Type 0
@@ -40,8 +50,8 @@ module _ (st : Settings) (s : List ℕ) where
   visit-forward o = shape-forward (visit-shape st s o)
 
   -- what is left of the run at o, by what the step there says
-  pub rest : (o : ℕ) {r x : CarveStep} → r ≡ x → carver_visit_of o r ≡ carver_visit st s o → Left (carver_visit st s) (length s) o (carver_visit_of o x)
-  rest o {x = x} e f = left (carver_visit st s) (length s) visit-forward o (carver_visit_of o x) (ap (carver_visit_of o) (sym e) ∙ f)
+  pub rest : (o : ℕ) {r x : CarveStep} → r ≡ x → carver_visit_of r ≡ carver_visit st s o → Left (carver_visit st s) (length s) o (carver_visit_of x)
+  rest o {x = x} e f = left (carver_visit st s) (length s) visit-forward o (carver_visit_of x) (ap carver_visit_of (sym e) ∙ f)
 
   -- how many records there can be from o on
   abbrev Few : ℕ → List Event → Type 0
@@ -65,6 +75,21 @@ module _ (st : Settings) (s : List ℕ) where
   -- so room for so many is enough
   pub room-enough : {room : ℕ} → (length s + 4) / 64 ≤ room → length (carved_places st s) ≤ room
   room-enough h = omega (arith, records-few)
+
+  -- and the candidates take 8 bytes each of a run that ends within 8 bytes of the end
+  shape-costs : {o : ℕ} {v : Visit Event} → CandidateShape st s o v → Costs 8 (length s + 8) o v
+  shape-costs (stops h) = tt
+  shape-costs (passes h) = omega arith
+  shape-costs (rejects why v n h k) = omega arith
+  shape-costs {o} (carves v n h k) = omega (arith, k.whole, k.inside, fixed-low v)
+
+  pub events-few : length (events st s) ≤ length s + 8
+  unfolding from
+  events-few = omega (arith, walk-bound (carver_visit st s) 8 (length s + 8) (λ o. shape-costs (visit-shape st s o)) (length s - 0) 0 (omega arith))
+
+  -- what is left at the start is all
+  pub from-start : {st' : Settings} {t : List ℕ} {o : ℕ} → st' ≡ st → t ≡ s → o ≡ 0 → events_from st' t o ≡ events st s
+  from-start e f g = rw (e, f, g)
 
   -- the visits that find something are at multiples of 8
   after-aligned : {o : ℕ} {v : Visit Event} → CandidateShape st s o v → (f : ℕ → List Event) → o % 8 ≡ 0 → ((p : ℕ) → p % 8 ≡ 0 → All Aligned (f p)) → All Aligned (going_on v f)

@@ -8,7 +8,7 @@ use lib.ListN.{length}
 use lib.Dec.{ltb, leb, eqb}
 use mir.Syntax.{w64}
 use mir.Val.{to_z}
-use borrow.Author.Tests.{lt-ltb, le-ltb, ltb-true, ltb-false, le-leb, lt-leb, leb-true, ne_eqb, eqb-true}
+use borrow.Author.Tests.{lt-ltb, le-ltb, ltb-true, ltb-false, leb-true, ne_eqb, eqb-true}
 use Rattle.base.specs.Places.{round8}
 use Rattle.base.specs.Walk.{Visit, stop, go}
 use Rattle.base.proofs.ChoiceLaws.{cond_cases, and_left, and_right}
@@ -19,38 +19,30 @@ use Rattle.usn_record.specs.Names.{fixed_of}
 use Rattle.usn_carver.specs.Settings.{Settings}
 use Rattle.usn_carver.specs.Events.{Reason, structure, time, Event, rejected, carved}
 use Rattle.usn_carver.specs.Carve.{CandidateHeader, bad_name, bad_time, is_candidate, candidate_header_at, judged, carver_visit_as, carver_visit}
-use Rattle.usn_carver.specs.Step.{layout_from}
 
 -- the ways out of a visit by a layout, with n the length as it was read
 module _ (st : Settings) (l : Layout) (s : List ℕ) (o : ℕ) {n : ℕ} (e : n ≡ le_at 4 s o) where
-  pub passed-short : n < l.fixed → go [] (o + 8) ≡ carver_visit_as st l s o
-  unfolding carver_visit_as
-  passed-short h = simp (sym e, lt-leb _ _ h)
+  module _ {t : Bool} (a : t ≡ is_candidate l (length s) o n) where
+    pub passed : t ≡ false → go [] (o + 8) ≡ carver_visit_as st l s o
+    unfolding carver_visit_as
+    passed b = simp (sym e, sym a ∙ b)
 
-  pub passed-large : l.fixed ≤ n → max_record < n → go [] (o + 8) ≡ carver_visit_as st l s o
-  unfolding carver_visit_as
-  passed-large a h = simp (sym e, le-leb _ _ a, lt-leb _ _ h)
-
-  pub passed-cut : l.fixed ≤ n → n ≤ max_record → length s < o + n → go [] (o + 8) ≡ carver_visit_as st l s o
-  unfolding carver_visit_as
-  passed-cut a b h = simp (sym e, le-leb _ _ a, le-leb _ _ b, lt-leb _ _ h)
-
-  -- past those the tests of the name and of the time decide
-  module _ (a : l.fixed ≤ n) (b : n ≤ max_record) (d : o + n ≤ length s)
-      {offset size : ℕ} (f : offset ≡ (candidate_header_at l s o).name_offset) (g : size ≡ (candidate_header_at l s o).name_length)
-      {x : Bool} (h : x ≡ bad_name l.fixed n offset size) where
-    pub rejected-structure : x ≡ true → go (rejected structure o l.major ∷ []) (o + 8) ≡ carver_visit_as st l s o
-    unfolding carver_visit_as judged
-    rejected-structure k = simp (sym e, le-leb _ _ a, le-leb _ _ b, le-leb _ _ d, sym f, sym g, sym h ∙ k)
-
-    module _ (i : x ≡ false) {bits : ℕ} (j : bits ≡ le_at 8 s (o + l.time)) {y : Bool} (k : y ≡ bad_time st.lower st.upper (to_z w64 bits)) where
-      pub rejected-time : y ≡ true → go (rejected time o l.major ∷ []) (o + 8) ≡ carver_visit_as st l s o
+    -- of a candidate the tests of the name and of the time decide
+    module _ (b : t ≡ true)
+        {offset size : ℕ} (f : offset ≡ (candidate_header_at l s o).name_offset) (g : size ≡ (candidate_header_at l s o).name_length)
+        {x : Bool} (h : x ≡ bad_name l.fixed n offset size) where
+      pub rejected-structure : x ≡ true → go (rejected structure o l.major ∷ []) (o + 8) ≡ carver_visit_as st l s o
       unfolding carver_visit_as judged
-      rejected-time m = simp (sym e, le-leb _ _ a, le-leb _ _ b, le-leb _ _ d, sym f, sym g, sym h ∙ i, sym j, sym k ∙ m)
+      rejected-structure k = simp (sym e, sym a ∙ b, sym f, sym g, sym h ∙ k)
 
-      pub carved-record : y ≡ false → go (carved o l.major n ∷ []) (o + round8 n) ≡ carver_visit_as st l s o
-      unfolding carver_visit_as judged
-      carved-record m = simp (sym e, le-leb _ _ a, le-leb _ _ b, le-leb _ _ d, sym f, sym g, sym h ∙ i, sym j, sym k ∙ m)
+      module _ (i : x ≡ false) {bits : ℕ} (j : bits ≡ le_at 8 s (o + l.time)) {y : Bool} (k : y ≡ bad_time st.lower st.upper (to_z w64 bits)) where
+        pub rejected-time : y ≡ true → go (rejected time o l.major ∷ []) (o + 8) ≡ carver_visit_as st l s o
+        unfolding carver_visit_as judged
+        rejected-time m = simp (sym e, sym a ∙ b, sym f, sym g, sym h ∙ i, sym j, sym k ∙ m)
+
+        pub carved-record : y ≡ false → go (carved o l.major n ∷ []) (o + round8 n) ≡ carver_visit_as st l s o
+        unfolding carver_visit_as judged
+        carved-record m = simp (sym e, sym a ∙ b, sym f, sym g, sym h ∙ i, sym j, sym k ∙ m)
 
 -- the ways out of a visit, with n and v the length and version as they were read
 module _ (st : Settings) (s : List ℕ) (o : ℕ) where
@@ -65,12 +57,12 @@ module _ (st : Settings) (s : List ℕ) (o : ℕ) where
 
     module _ (b : n ≡ 0 → ⊥) {v : ℕ} (f : v ≡ le_at 2 s (o + 4)) where
       -- x is what was found by the version's layout
-      pub by-v2 : {x : Visit Event} → v ≡ 2 → x ≡ carver_visit_as st (layout_from 0x18 2) s o → x ≡ carver_visit st s o
-      unfolding carver_visit carver_visit_as judged
+      pub by-v2 : {x : Visit Event} → v ≡ 2 → x ≡ carver_visit_as st v2 s o → x ≡ carver_visit st s o
+      unfolding carver_visit
       by-v2 h k = k ∙ simp (le-ltb _ _ a, sym e, ne_eqb _ _ b, sym f, h)
 
-      pub by-v3 : {x : Visit Event} → v ≡ 3 → x ≡ carver_visit_as st (layout_from 0x28 3) s o → x ≡ carver_visit st s o
-      unfolding carver_visit carver_visit_as judged
+      pub by-v3 : {x : Visit Event} → v ≡ 3 → x ≡ carver_visit_as st v3 s o → x ≡ carver_visit st s o
+      unfolding carver_visit
       by-v3 h k = k ∙ simp (le-ltb _ _ a, sym e, ne_eqb _ _ b, sym f, h)
 
       pub passed-other : (v ≡ 2 → ⊥) → (v ≡ 3 → ⊥) → go [] (o + 8) ≡ carver_visit st s o

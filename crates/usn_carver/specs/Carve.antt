@@ -14,8 +14,6 @@ use Rattle.usn_record.specs.Layout.{Layout, v2, v3}
 use Rattle.usn_record.specs.Record.{max_record, major_at}
 use Rattle.usn_carver.specs.Settings.{Settings}
 use Rattle.usn_carver.specs.Events.{Event, structure, time, rejected, carved, records, stats_of}
-use Rattle.usn_carver.specs.declared.Carving.{Carving}
-use Rattle.usn_carver.specs.declared.Carving.TheVariants.{Carved, Refused}
 use Rattle.usn_carver.specs.declared.CarvingStats.{CarvingStats}
 
 -- the numbers that decide on a candidate, beside its version
@@ -27,8 +25,11 @@ pub record CandidateHeader : Type 0 where
   pub filetime : ℤ
 
 -- a candidate of n bytes at o, in an extract with this end: its length is from the fixed part to the largest, and it ends inside
+abbrev pub fits_inside : ℕ → ℕ → ℕ → ℕ → Bool
+fits_inside fixed end o n = leb fixed n && leb n max_record && leb (o + n) end
+
 abbrev pub is_candidate : Layout → ℕ → ℕ → ℕ → Bool
-is_candidate l end o n = leb l.fixed n && leb n max_record && leb (o + n) end
+is_candidate l end o n = fits_inside l.fixed end o n
 
 -- the name does not begin after the fixed part, or passes the record, or its length is 0 or odd
 abbrev pub bad_name : ℕ → ℕ → ℕ → ℕ → Bool
@@ -93,8 +94,3 @@ carving st s words =
 -- what the lent list l holds after that call
 abbrev pub carving_list : Settings → List ℕ → List ℕ → List ℕ
 carving_list st s l = list_after (λ _. flatten place_words (carved_places st s)) (carving st s (length l)) l
-
--- what the call's answer says
-abbrev pub outcome : Carving → Outcome CarvingStats
-outcome (Carved stats) = answered stats
-outcome (Refused n) = refused n

@@ -1,5 +1,5 @@
 -- What becomes of the candidates that carving meets, and what is counted and listed of it.
-use Rattle.std.specs.Prelude.{ℕ, suc, List, [], ◌∷◌, length}
+use Rattle.std.specs.Prelude.{ℕ, suc, List, [], ◌∷◌, Bool, true, false, length}
 use Rattle.base.specs.declared.Place.{Place}
 use Rattle.usn_carver.specs.declared.CarvingStats.{CarvingStats}
 
@@ -18,6 +18,11 @@ abbrev pub records : List Event → List Place
 records [] = []
 records (rejected why o v ∷ es) = records es
 records (carved o v n ∷ es) = record { offset = o; length = n } ∷ records es
+
+-- whether one is carved
+abbrev pub is_carved : Event → Bool
+is_carved (rejected why o v) = false
+is_carved (carved o v n) = true
 
 -- how many are rejected for their structure
 abbrev pub structures : List Event → ℕ

@@ -1,20 +1,31 @@
 -- What the answers of the inner functions say.
-use Rattle.std.specs.Prelude.{ℕ, [], ◌∷◌, false}
+use Rattle.std.specs.Prelude.{ℕ, [], ◌∷◌}
 use Rattle.base.specs.Walk.{Visit, stop, go}
-use Rattle.usn_record.specs.Layout.{Layout, layout_at}
+use Rattle.usn_carver.specs.Settings.{Settings, settings_of}
 use Rattle.usn_carver.specs.Events.{Event, structure, time, rejected, carved}
+use Rattle.usn_carver.specs.declared.limits.Limits.{Limits}
+use Rattle.usn_carver.specs.declared.step.Candidate.{Candidate}
+use Rattle.usn_carver.specs.declared.step.Fate.{Fate}
+use Rattle.usn_carver.specs.declared.step.Fate.TheVariants.{BadStructure, BadTime, Carved}
 use Rattle.usn_carver.specs.declared.step.CarveStep.{CarveStep}
-use Rattle.usn_carver.specs.declared.step.CarveStep.TheVariants.{Stop, Zero, Move, BadStructure, BadTime, Carved}
+use Rattle.usn_carver.specs.declared.step.CarveStep.TheVariants.{Stop, Zero, Move, Met}
 
--- a step at o as a visit
-abbrev pub carver_visit_of : ℕ → CarveStep → Visit Event
-carver_visit_of o Stop = stop
-carver_visit_of o (Zero p) = go [] p
-carver_visit_of o (Move p) = go [] p
-carver_visit_of o (BadStructure v p) = go (rejected structure o v ∷ []) p
-carver_visit_of o (BadTime v p) = go (rejected time o v ∷ []) p
-carver_visit_of o (Carved v n p) = go (carved o v n ∷ []) p
+-- the limits of the code
+abbrev pub settings_by : Limits → Settings
+settings_by l = settings_of l.first l.last
 
--- a version's layout by the offset of its USN, from which on lies all that carving reads
-abbrev pub layout_from : ℕ → ℕ → Layout
-layout_from tail version = layout_at 0 tail false false false version
+-- a candidate as an event
+abbrev pub event_by : ℕ → ℕ → Fate → Event
+event_by o v BadStructure = rejected structure o v
+event_by o v BadTime = rejected time o v
+event_by o v (Carved n) = carved o v n
+
+abbrev pub event_of : Candidate → Event
+event_of c = event_by c.offset c.version c.fate
+
+-- a step as a visit
+abbrev pub carver_visit_of : CarveStep → Visit Event
+carver_visit_of Stop = stop
+carver_visit_of (Zero p) = go [] p
+carver_visit_of (Move p) = go [] p
+carver_visit_of (Met c p) = go (event_of c ∷ []) p

@@ -3,15 +3,19 @@
 // Every function here is proved. The call has no `requires`: any extract and any list get an answer.
 #![tactic(auto)]
 
-mod fill;
+mod candidates;
+mod limits;
 mod step;
-mod time;
+pub mod words;
 
-ghost use Rattle.usn_carver.specs.Settings.{standard, settings_of};
+ghost use Rattle.usn_carver.specs.Settings.{standard};
+ghost use Rattle.usn_carver.specs.Step.{settings_by};
 ghost use Rattle.usn_carver.specs.Promise.{CarvePromise};
 
-use crate::fill::{fill_list, has_room};
-use base::{ABOVE_DOMAIN, DOMAIN, LIST_FULL};
+use crate::candidates::{fill_list, has_room};
+use crate::limits::Limits;
+use base::DOMAIN;
+use base::refusal::Refusal;
 
 // The earliest time of a carved record: the start of 2000, in ticks of 100 nanoseconds since 1601.
 const FILETIME_2000: u64 = 125_911_584_000_000_000;
@@ -28,32 +32,28 @@ pub struct CarvingStats {
     pub rejected_structure: u64,
 }
 
-// What carving answers: its counters, or a refusal's number.
-#[derive(Clone, Copy)]
-pub enum Carving {
-    Carved(CarvingStats),
-    Refused(u32),
-}
-
 // The records found at multiples of 8: of version 2 or 3, whole, with a name right after the fixed part and a time within the
 // limits. Their offsets and lengths go as pairs to the front of the list; the words after them are left alone.
 // Refused, with nothing written: 1 the extract is above the domain, 5 there are more records than half the list's words.
-pub fn carve_usn_records(extract: &[u8], list: &mut [usize]) -> Carving
+pub fn carve_usn_records(extract: &[u8], list: &mut [usize]) -> Result<CarvingStats, Refusal>
     ensures { CarvePromise standard extract list result }
 {
-    carve(extract, list, FILETIME_2000, FILETIME_2030)
+    let limits = Limits {
+        first: FILETIME_2000,
+        last: FILETIME_2030,
+    };
+    carve(extract, list, limits)
 }
 
-// Carving with any limits: the times from lower to upper, given by their bits.
-fn carve(extract: &[u8], list: &mut [usize], lower: u64, upper: u64) -> Carving
-    ensures { CarvePromise (settings_of lower upper) extract list result }
+// Carving with any limits.
+fn carve(extract: &[u8], list: &mut [usize], limits: Limits) -> Result<CarvingStats, Refusal>
+    ensures { CarvePromise (settings_by limits) extract list result }
 {
     if DOMAIN < extract.len() {
-        return Carving::Refused(ABOVE_DOMAIN);
+        return Err(Refusal::AboveDomain);
     }
-    if has_room(extract, list.len() / 2, lower, upper) {
-        Carving::Carved(fill_list(extract, list, lower, upper))
-    } else {
-        Carving::Refused(LIST_FULL)
+    if !has_room(extract, list.len() / 2, limits) {
+        return Err(Refusal::ListFull);
     }
+    Ok(fill_list(extract, list, limits))
 }

@@ -5,6 +5,7 @@ use mathlib.Core.List.{List}
 use mathlib.Core.Bool.{Bool, true, false, cond, ◌&&◌, ◌||◌}
 use lib.ListN.{length}
 use lib.Dec.{ltb, leb, eqb}
+use Rattle.std.specs.Prelude.{Ok, Err}
 use Rattle.base.specs.Outcome.{Outcome, refused, answered, refused_as}
 use Rattle.base.specs.Refusals.{above_domain, bad_state, bad_buffer, too_many_bytes, domain}
 use Rattle.base.proofs.ChoiceLaws.{cond_cases}
@@ -19,11 +20,12 @@ use Rattle.usn_scan.specs.Outcome.{scan}
 use Rattle.usn_carver.specs.Settings.{Settings}
 use Rattle.usn_carver.specs.Carve.{carved_places, carving}
 use Rattle.window_numbers.specs.Numbers.{window_size, stream_domain, wrong_numbers, numbers_refusal}
+use Rattle.usn_window.specs.Answers.{refused_by}
 use Rattle.usn_window.specs.Calls.{next_of, give_of, give_refusal}
 use Rattle.usn_window.specs.Window.{numbers_in, window_refusal, wanted_of, refilled, skipped, fed_by, finished}
 use Rattle.usn_window.specs.Rule.{Reads, reading, asking, or_end, given, turn_by_length, turn_of, onward, turns, searched}
 use Rattle.usn_window.specs.declared.UsnJournalReader.{UsnJournalReader}
-use Rattle.usn_window.specs.declared.Answer.TheVariants.{End, Refused}
+use Rattle.usn_window.specs.declared.Answer.TheVariants.{End}
 use Rattle.usn_window.specs.declared.Reading.{Reading}
 use Rattle.usn_window.specs.declared.turn.Turn.{Turn}
 use Rattle.usn_window.specs.declared.turn.Turn.TheVariants.{Done, Again}
@@ -78,7 +80,7 @@ search-given w n (answered r) = domain-answered _
 
 search-end : (w v : UsnJournalReader) → Searches (or_end w v)
 search-end w v =
-    cond_cases Searches (eqb w.end w.total) {x = Done (reading End (finished w))} {y = Done (asking v)} (λ _. domain-answered _) (λ _. domain-answered _)
+    cond_cases Searches (eqb w.end w.total) {x = Done (reading (Ok End) (finished w))} {y = Done (asking v)} (λ _. domain-answered _) (λ _. domain-answered _)
 
 module _ (r : Reads) where
   search-turn : (w : UsnJournalReader) → Searches (turn_of r w)
@@ -114,21 +116,21 @@ module _ (w : UsnJournalReader) (n : ℕ) (P : Bool → ℕ → Type 0) where
 -- a call on a window tests them; of a giving of k bytes, by the number m that it tests
 abbrev Gives-on : UsnJournalReader → ℕ → Bool → ℕ → Type 0
 Gives-on w k above m =
-    Reads-on above (cond (eqb m 0) (cond (eqb k 0) (cond (eqb (wanted_of w) 0) (asking w) (reading End (finished w))) (asking (fed_by w k))) (reading (Refused m) w))
+    Reads-on above (cond (eqb m 0) (cond (eqb k 0) (cond (eqb (wanted_of w) 0) (asking w) (reading (Ok End) (finished w))) (asking (fed_by w k))) (reading (Err (refused_by m)) w))
 
 module _ (w : UsnJournalReader) (n : ℕ) where
   pub next-domain : (r : Reads) → Domain (ltb stream_domain w.total) (reading_outcome (next_of r n w))
-  unfolding next_of searched
+  unfolding next_of searched refused_by
   next-domain r =
-      let x = cond w.ended (reading End w) (cond (eqb (wanted_of w) 0) (searched r w) (asking w)) in
-      refusals w n (λ above m. Reads-on above (cond (eqb m 0) x (reading (Refused m) w))) (record { test = refl }) (domain-refused 11 refl) (domain-refused 9 refl)
-      (cond_cases (Reads-on false) w.ended {x = reading End w} (λ _. domain-answered _)
+      let x = cond w.ended (reading (Ok End) w) (cond (eqb (wanted_of w) 0) (searched r w) (asking w)) in
+      refusals w n (λ above m. Reads-on above (cond (eqb m 0) x (reading (Err (refused_by m)) w))) (record { test = refl }) (domain-refused 11 refl) (domain-refused 9 refl)
+      (cond_cases (Reads-on false) w.ended {x = reading (Ok End) w} (λ _. domain-answered _)
       (λ _. cond_cases (Reads-on false) (eqb (wanted_of w) 0) {x = searched r w} {y = asking w} (λ _. search-turns r _ w) (λ _. domain-answered _)))
 
   pub give-domain : (k : ℕ) → Domain (ltb stream_domain w.total) (reading_outcome (give_of n k w))
-  unfolding give_of give_refusal
+  unfolding give_of give_refusal refused_by
   give-domain k =
       refusals w n (λ above m. Gives-on w k above (cond (eqb m 0) (cond (ltb (wanted_of w) k) too_many_bytes 0) m)) (record { test = refl }) (domain-refused 11 refl) (domain-refused 9 refl)
       (cond_cases (Gives-on w k false) (ltb (wanted_of w) k) {x = too_many_bytes} {y = 0} (λ _. domain-refused 10 refl)
       (λ _. cond_cases (Reads-on false) (eqb k 0) {y = asking (fed_by w k)}
-      (λ _. cond_cases (Reads-on false) (eqb (wanted_of w) 0) {x = asking w} {y = reading End (finished w)} (λ _. domain-answered _) (λ _. domain-answered _)) (λ _. domain-answered _)))
+      (λ _. cond_cases (Reads-on false) (eqb (wanted_of w) 0) {x = asking w} {y = reading (Ok End) (finished w)} (λ _. domain-answered _) (λ _. domain-answered _)) (λ _. domain-answered _)))

@@ -6,6 +6,7 @@ use mathlib.Core.Bool.{Bool, true, false, cond}
 use native.Mathlib.Omega.{arith}
 use lib.ListN.{length}
 use lib.Dec.{ltb, eqb}
+use Rattle.std.specs.Prelude.{Ok, Err}
 use Rattle.base.specs.Outcome.{Outcome, refused, answered}
 use Rattle.base.specs.Refusals.{list_full}
 use Rattle.base.specs.Words.{short_by, unless_refused, Answers}
@@ -14,11 +15,12 @@ use Rattle.window_numbers.specs.Numbers.{stream_domain}
 use Rattle.usn_window.specs.Window.{fresh, wanted_of, finished, fed_by}
 use Rattle.usn_window.specs.Rule.{buffer_reads, reading, asking}
 use Rattle.usn_window.specs.Promise as window
+use Rattle.usn_window.specs.Answers.{refused_by}
 use Rattle.usn_window.specs.Calls.{next_of, give_of, give_refusal, buffer_after}
 use Rattle.usn_window.specs.declared.UsnJournalReader.{UsnJournalReader}
-use Rattle.usn_window.specs.declared.Answer.TheVariants.{End, Refused}
+use Rattle.usn_window.specs.declared.Answer.TheVariants.{End}
 use Rattle.usn_window.specs.declared.Reading.{Reading}
-use Rattle.usn_answers.specs.Window.{reader_words, reader_of, answer_words, reading_words, reading_outcome}
+use Rattle.usn_answers.specs.Window.{reader_words, reader_of, reading_words, reading_outcome}
 use Rattle.usn_answers.proofs.WindowLaws.{ReadingOut, out-refused}
 use Rattle.usn_ffi.proofs.DomainLaws.{next-domain, give-domain}
 use Rattle.usn_ffi.specs.Promise.{Gives}
@@ -58,12 +60,12 @@ module _ (l b o : List ℕ) (h : 6 ≤ length l) {w : UsnJournalReader} (e : w �
 
 -- A giving that is refused leaves the buffer: a reading v that is no refusal, or one, by the test that decides on both.
 kept : (t : Bool) (v : Reading) (n : ℕ) (w : UsnJournalReader) (b b' : List ℕ) → reading_outcome v ≡ answered v
-    → cond t b' b ≡ unless_refused (reading_outcome (cond t v (reading (Refused n) w))) b (cond t b' b)
+    → cond t b' b ≡ unless_refused (reading_outcome (cond t v (reading (Err (refused_by n)) w))) b (cond t b' b)
 kept true v n w b b' e = rw e
 kept false v n w b b' e = refl
 
 accepted : (t u : Bool) (v w : UsnJournalReader)
-    → let x = cond t (cond u (asking v) (reading End (finished v))) (asking w) in reading_outcome x ≡ answered x
+    → let x = cond t (cond u (asking v) (reading (Ok End) (finished v))) (asking w) in reading_outcome x ≡ answered x
 accepted true true v w = refl
 accepted true false v w = refl
 accepted false u v w = refl
@@ -88,11 +90,11 @@ module _ (l b bytes o : List ℕ) where
 
 -- giving never answers a record: its answer has three words, or none where it is refused
 pub give-words : (n k : ℕ) (w : UsnJournalReader) → length (reading_words (give_of n k w)) ≤ 3
-unfolding give_of answer_words
+unfolding give_of
 give-words n k w = cases (eqb (give_refusal n k w) 0) (eqb k 0) (eqb (wanted_of w) 0)
   where
     cases : (s t u : Bool)
-        → length (reading_words (cond s (cond t (cond u (asking w) (reading End (finished w))) (asking (fed_by w k))) (reading (Refused (give_refusal n k w)) w))) ≤ 3
+        → length (reading_words (cond s (cond t (cond u (asking w) (reading (Ok End) (finished w))) (asking (fed_by w k))) (reading (Err (refused_by (give_refusal n k w))) w))) ≤ 3
     cases true true true = omega arith
     cases true true false = omega arith
     cases true false u = omega arith

@@ -16,14 +16,17 @@
 ghost use Rattle.usn_record.specs.Layout.{v2, v3};
 ghost use Rattle.usn_ffi.specs.Promise.{ParsePromise, ListedPromise, ScanPromise, CarvePromise, NewPromise, NextPromise, GivePromise};
 
-use base::words::short;
-use base::{DOMAIN, LIST_FULL};
-use usn_answers::carver::{STATS_WORDS, put_stats};
-use usn_answers::record_words::{RECORD_WORDS, put_record};
-use usn_answers::scan::{COUNT_WORDS, put_count};
+use base::DOMAIN;
+use base::refusal::Refusal;
+use base::words::{put_answer, short};
 use usn_answers::window::{READER_WORDS, READING_WORDS, put_reader, put_reading, reader_of};
+use usn_carver::words::STATS_WORDS;
+use usn_record::words::RECORD_WORDS;
 use usn_window::UsnJournalReader;
 use window_numbers::STREAM_DOMAIN;
+
+// The words of a scan's answer.
+const COUNT_WORDS: usize = 1;
 
 // The version 2 record that data begins with, as 19 words. Answers 0, or refuses: 1 data is above the domain, 5 fewer than 19
 // words are lent, 2 data is shorter than 60 bytes, 3 the length field is outside 60..65536, 4 it passes data.
@@ -34,7 +37,7 @@ pub extern "C" fn usn_parse_record_v2(data: &[u8], words: &mut [u64]) -> u32
     if words.len() < RECORD_WORDS {
         return short(DOMAIN < data.len());
     }
-    put_record(usn_record::parse_usn_record_v2(data), words)
+    put_answer(usn_record::parse_usn_record_v2(data), words)
 }
 
 // The version 3 record that data begins with, as 19 words. Answers 0, or refuses: 1 data is above the domain, 5 fewer than 19
@@ -46,7 +49,7 @@ pub extern "C" fn usn_parse_record_v3(data: &[u8], words: &mut [u64]) -> u32
     if words.len() < RECORD_WORDS {
         return short(DOMAIN < data.len());
     }
-    put_record(usn_record::parse_usn_record_v3(data), words)
+    put_answer(usn_record::parse_usn_record_v3(data), words)
 }
 
 // The record at an offset of an extract, as 19 words. Answers 0, or refuses: 5 fewer than 19 words are lent, 12 no version 2 or
@@ -56,9 +59,9 @@ pub extern "C" fn usn_listed_record(extract: &[u8], offset: usize, words: &mut [
     ensures { ListedPromise extract offset words result }
 {
     if words.len() < RECORD_WORDS {
-        return LIST_FULL;
+        return Refusal::ListFull.number();
     }
-    put_record(usn_record::listed_record(extract, offset), words)
+    put_answer(usn_record::listed_record(extract, offset), words)
 }
 
 // The version 2 and 3 records of an extract, in order: how many, a word of out, and for each its offset and length, two words
@@ -70,7 +73,7 @@ pub extern "C" fn usn_parse_journal(extract: &[u8], list: &mut [usize], out: &mu
     if out.len() < COUNT_WORDS {
         return short(DOMAIN < extract.len());
     }
-    put_count(usn_scan::parse_usn_journal(extract, list), out)
+    put_answer(usn_scan::parse_usn_journal(extract, list), out)
 }
 
 // A window over a journal of total bytes, as 6 words of reader: start, position, end, held, total, and 1 where it has ended,
@@ -81,7 +84,7 @@ pub extern "C" fn usn_reader_new(total: u64, reader: &mut [u64]) -> u32
     ensures { NewPromise total reader result }
 {
     if reader.len() < READER_WORDS {
-        return LIST_FULL;
+        return Refusal::ListFull.number();
     }
     put_reader(UsnJournalReader::new(total as usize), reader)
 }
@@ -95,7 +98,7 @@ pub extern "C" fn usn_reader_next(reader: &mut [u64], buffer: &[u8], out: &mut [
     ensures { NextPromise reader buffer out result }
 {
     if reader.len() < READER_WORDS {
-        return LIST_FULL;
+        return Refusal::ListFull.number();
     }
     let w = reader_of(reader);
     if out.len() < READING_WORDS {
@@ -117,7 +120,7 @@ pub extern "C" fn usn_reader_give(
     ensures { GivePromise reader buffer bytes out result }
 {
     if reader.len() < READER_WORDS {
-        return LIST_FULL;
+        return Refusal::ListFull.number();
     }
     let w = reader_of(reader);
     if out.len() < READING_WORDS {
@@ -136,5 +139,5 @@ pub extern "C" fn usn_carve_records(extract: &[u8], list: &mut [usize], out: &mu
     if out.len() < STATS_WORDS {
         return short(DOMAIN < extract.len());
     }
-    put_stats(usn_carver::carve_usn_records(extract, list), out)
+    put_answer(usn_carver::carve_usn_records(extract, list), out)
 }

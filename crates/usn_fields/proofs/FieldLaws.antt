@@ -6,7 +6,7 @@ use mathlib.Core.List.{List, [], ◌∷◌, ◌++◌}
 use native.Mathlib.Nat.{pow-succ'}
 use native.Mathlib.Numerals.{unary_clauses}
 use native.Mathlib.Omega.{arith}
-use borrow.Author.Tests.{lt-ltb, le-ltb, ltb-true, ltb-false}
+use borrow.Author.Tests.{ltb-true, ltb-false}
 use lib.Dec.{ltb}
 use lib.ListN.{length, length-append}
 use lib.Seq.{sets}
@@ -78,10 +78,3 @@ pub hex-filled : (l : List ℕ) (i n : ℕ) {m o : List ℕ} {r q : ℕ} → Put
     → Filled 9 l o i q (hex_field n)
 unfolding hex_field
 hex-filled l i n p s = fill-of 9 l i (hex_digits 8 n ++ space) (put_then l i (hex_digits 8 n) space p s) (omega (arith, hex-length 8 n, p.value, s.value))
-
--- the glyph of a digit by its size
-pub glyph-low : (d : ℕ) → d < 10 → 0x30 + d ≡ hex_digit_ascii d
-glyph-low d h = simp (lt-ltb d 10 h)
-
-pub glyph-high : (d : ℕ) → 10 ≤ d → 0x57 + d ≡ hex_digit_ascii d
-glyph-high d h = simp (le-ltb d 10 h)

@@ -15,12 +15,6 @@ unfolding shown_to
 shown-none [] = refl
 shown-none (x ∷ l) = refl
 
-pub shown-length : (i : ℕ) (l : List ℕ) → length (shown_to i l) ≡ length l
-unfolding shown_to
-shown-length zero l = refl
-shown-length (suc i) [] = refl
-shown-length (suc i) (x ∷ l) = ap suc (shown-length i l)
-
 -- the next byte is still as it was, and is shown
 shown-more : (i : ℕ) (l : List ℕ) → i < length l → set (shown_to i l) i (shown_byte (get_or (shown_to i l) i 0)) ≡ shown_to (suc i) l
 unfolding shown_to
@@ -33,8 +27,17 @@ shown-more (suc i) (x ∷ l) h = ap (λ (m : List ℕ). shown_byte x ∷ m) (sho
 pub shown-next : (i : ℕ) (l : List ℕ) {m : List ℕ} {b : ℕ} → i < length l → m ≡ shown_to i l → b ≡ shown_byte (get_or m i 0) → set m i b ≡ shown_to (i + 1) l
 shown-next i l h e f = rw (f, e) (shown-more i l h ∙ ap (λ (k : ℕ). shown_to k l) (sym (add-one i)))
 
-pub shown-all : (l : List ℕ) (i n : ℕ) {m : List ℕ} → m ≡ shown_to i l → i ≤ n → n ≤ i → m ≡ shown_to n l
-shown-all l i n e h g = e ∙ ap (λ (k : ℕ). shown_to k l) (omega (arith, h, g))
+shown-whole : (i : ℕ) (l : List ℕ) → length l ≤ i → shown_to i l ≡ map shown_byte l
+unfolding shown_to
+shown-whole zero [] h = refl
+shown-whole zero (x ∷ l) h = absurd (omega arith)
+shown-whole (suc i) [] h = refl
+shown-whole (suc i) (x ∷ l) h = ap (λ (m : List ℕ). shown_byte x ∷ m) (shown-whole i l (omega (arith, h)))
+
+-- a front that is shown as far as it goes, before what it left
+pub shown-all : (l : List ℕ) (n : ℕ) {i : ℕ} {m : List ℕ} → m ≡ shown_to i (take n l) → length (take n l) ≤ i → m ++ drop n l ≡ shown_to n l
+unfolding shown_to
+shown-all l n {i} e h = rw (e ∙ shown-whole i (take n l) h) refl
 
 pub length-shown : (l : List ℕ) → length (map shown_byte l) ≡ length l
 length-shown [] = refl

@@ -1,5 +1,5 @@
 -- A signed number by its sign. Assumes nothing.
-use Prim.Native.Nat.{ℕ, ◌+◌, ◌-◌, ◌^◌, ◌<◌}
+use Prim.Native.Nat.{ℕ}
 use mathlib.Core.Path.{◌≡◌, refl, sym, ap, ◌∙◌}
 use mathlib.Core.Bool.{Bool, true, false, true≢false}
 use mathlib.Core.List.{List, ◌++◌}
@@ -18,28 +18,6 @@ use Rattle.usn_fields.specs.Line.{minus, field, signed_field}
 module _ (z : ℤ) (f : SFits w64 z) where
   sign : {b : Bool} → lt_z (to_z w64 (of_z w64 z)) (pos 0) ≡ b → lt_z z (pos 0) ≡ b
   sign e = rw (to_z-of_z w64 z f) at e
-
-  -- the bits of a negative number, turned over, are one less than its magnitude
-  pub turned-fits : {b : ℕ} → b ≡ of_z w64 (to_z w64 (of_z w64 z)) → lt_z (to_z w64 (of_z w64 z)) (pos 0) ≡ true → (2 ^ 64 - 1) - b + 1 < 2 ^ 64
-  turned-fits {b} h e = rw (h ∙ ap (of_z w64) (to_z-of_z w64 z f)) (by z f (sign e))
-    where
-      by : (z : ℤ) → SFits w64 z → lt_z z (pos 0) ≡ true → (2 ^ 64 - 1) - of_z w64 z + 1 < 2 ^ 64
-      by (pos n) f e = absurd (omega (arith, ltb-true n 0 e))
-      by (negsuc n) f e = omega (arith, f.sfits)
-
-  pub turned : {b : ℕ} → b ≡ of_z w64 (to_z w64 (of_z w64 z)) → lt_z (to_z w64 (of_z w64 z)) (pos 0) ≡ true → (2 ^ 64 - 1) - b + 1 ≡ nat_abs z
-  turned {b} h e = rw (h ∙ ap (of_z w64) (to_z-of_z w64 z f)) (by z f (sign e))
-    where
-      by : (z : ℤ) → SFits w64 z → lt_z z (pos 0) ≡ true → (2 ^ 64 - 1) - of_z w64 z + 1 ≡ nat_abs z
-      by (pos n) f e = absurd (omega (arith, ltb-true n 0 e))
-      by (negsuc n) f e = omega (arith, f.sfits)
-
-  pub unturned : {b : ℕ} → b ≡ of_z w64 (to_z w64 (of_z w64 z)) → lt_z (to_z w64 (of_z w64 z)) (pos 0) ≡ false → b ≡ nat_abs z
-  unturned h e = h ∙ ap (of_z w64) (to_z-of_z w64 z f) ∙ by z (sign e)
-    where
-      by : (z : ℤ) → lt_z z (pos 0) ≡ false → of_z w64 z ≡ nat_abs z
-      by (pos n) e = refl
-      by (negsuc n) e = absurd (true≢false e)
 
   pub signed-negative : lt_z (to_z w64 (of_z w64 z)) (pos 0) ≡ true → signed_field z ≡ minus ++ field (nat_abs z)
   unfolding signed_field

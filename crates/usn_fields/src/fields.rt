@@ -1,11 +1,10 @@
 // The numbers of a line into a text, each with a space after it.
-ghost use Rattle.std.specs.Prelude.{◌≡◌, ◌+◌, ◌≤◌, ◌<◌, length, nat_abs};
+ghost use Rattle.std.specs.Prelude.{◌≡◌, ◌+◌, ◌≤◌, ◌<◌, length};
 ghost use Rattle.std.proofs.lemmas.List.Edits.{sets};
 ghost use Rattle.io.specs.Digits.{hex_digit_ascii};
 ghost use Rattle.usn_fields.specs.Line.{field, pair, signed_field, hex_digits, hex_field, numbers};
 
 use usn_record::UsnRecord;
-use usn_record::bytes::signed_bits;
 use utf16::decimal::put_decimal;
 use utf16::plain::put_byte;
 
@@ -59,23 +58,12 @@ fn put_signed_field(text: &mut [u8], at: usize, z: i64) -> usize
     ensures text_after { text.new ≡ sets text.old at (signed_field z) }
     ensures upper_bound { result ≤ at + 22 }
 {
-    let n = magnitude(z);
+    let n = z.unsigned_abs();
     if z < 0 {
         let digits = put_byte(text, at, b'-');
         return put_field(text, digits, n);
     }
     put_field(text, at, n)
-}
-
-// A signed number without its sign.
-fn magnitude(z: i64) -> u64
-    ensures { result ≡ nat_abs z }
-{
-    let bits = signed_bits(z);
-    if z < 0 {
-        return !bits + 1;
-    }
-    bits
 }
 
 // A number as 8 hexadecimal digits.
@@ -89,7 +77,7 @@ fn put_hex_field(text: &mut [u8], at: usize, n: u32) -> usize
     put_byte(text, end, b' ')
 }
 
-// The last k hexadecimal digits of n.
+// The last k hexadecimal digits of n. `write!` would want a writer with the text and the place, and would answer a Result.
 fn put_hex(text: &mut [u8], at: usize, n: u32, k: usize) -> usize
     requires { at + k ≤ length text.old }
     ensures value { result ≡ at + length (hex_digits k n) }
@@ -102,7 +90,7 @@ fn put_hex(text: &mut [u8], at: usize, n: u32, k: usize) -> usize
     put_byte(text, last, hex_digit(n % 16))
 }
 
-// The ASCII code of a hexadecimal digit.
+// The ASCII code of a hexadecimal digit. `char::from_digit` would answer an Option of a char.
 fn hex_digit(d: u32) -> u8
     requires { d < 16 }
     ensures { result ≡ hex_digit_ascii d }

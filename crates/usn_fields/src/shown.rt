@@ -7,10 +7,8 @@ pub fn show(text: &mut [u8], n: usize)
     requires { n ≤ length text.old }
     ensures { text.new ≡ shown_to n text.old }
 {
-    let mut i: usize = 0;
-    while i < n {
-        text[i] = shown_byte(text[i]);
-        i += 1;
+    for byte in &mut text[..n] {
+        *byte = shown_byte(*byte);
     }
 }
 

@@ -9,10 +9,11 @@ use lib.Dec.{eqb}
 use lib.ListN.{length, take, drop, set, length-drop, drop_of_length-le}
 use lib.Seq.{sets, length-take-le, take_all}
 use borrow.Rule.Slice.PartMut.{put_mid}
-use Rattle.usn_record.specs.Record.{listed, outcome}
+use Rattle.usn_record.specs.Record.{listed}
+use Rattle.base.specs.Outcome.{outcome}
 use Rattle.usn_record.specs.declared.UsnRecord.{UsnRecord}
-use Rattle.usn_record.specs.declared.Parsed.{Parsed}
-use Rattle.usn_record.specs.declared.Parsed.TheVariants.{Record, Refused}
+use Rattle.std.specs.Prelude.{Result, Ok, Err}
+use Rattle.base.specs.declared.refusal.Refusal.{Refusal}
 use Rattle.utf16.specs.Decimal.{decimal}
 use Rattle.utf16.proofs.PutLaws as puts
 use Rattle.utf16.proofs.PutLaws.{put_then, put_as}
@@ -28,14 +29,14 @@ use Rattle.usn_fields.proofs.FieldLaws.{decimal-word}
 abbrev Numbered : List ℕ → List ℕ → ℕ → List ℕ → Type 0
 Numbered l m q vs = record { value : q ≡ length vs; text_after : m ≡ sets l 0 vs; upper_bound : q ≤ 199 }
 
-module _ (journal : List ℕ) (offset : ℕ) {p : Parsed} (e : outcome p ≡ listed journal offset) where
-  pub record-none : {n : ℕ} (l : List ℕ) → p ≡ Refused n → Numbered l l 0 (numbers_at journal offset)
+module _ (journal : List ℕ) (offset : ℕ) {p : Result UsnRecord Refusal} (e : outcome p ≡ listed journal offset) where
+  pub record-none : {k : Refusal} (l : List ℕ) → p ≡ Err k → Numbered l l 0 (numbers_at journal offset)
   unfolding numbers_at
   record-none l f =
       let is : numbers_of offset (listed journal offset) ≡ [] = ap (numbers_of offset) (sym e ∙ ap outcome f) in
       rw is (record { value = refl; text_after = refl; upper_bound = omega arith })
 
-  pub record-some : {r : UsnRecord} (l : List ℕ) {m : List ℕ} {q : ℕ} → p ≡ Record r → Numbered l m q (numbers offset r) → Numbered l m q (numbers_at journal offset)
+  pub record-some : {r : UsnRecord} (l : List ℕ) {m : List ℕ} {q : ℕ} → p ≡ Ok r → Numbered l m q (numbers offset r) → Numbered l m q (numbers_at journal offset)
   unfolding numbers_at
   record-some {r} l f g =
       let is : numbers_of offset (listed journal offset) ≡ numbers offset r = ap (numbers_of offset) (sym e ∙ ap outcome f) in

@@ -1,6 +1,6 @@
 -- What the functions promise that write parts of a listing. A record says it of lists: what the lent slices hold before, and, with ', after. The promise itself
 -- takes the call's parameters.
-use Rattle.std.specs.Prelude.{ℕ, ◌*◌, ◌≤◌, ◌≡◌, List, [], length, take}
+use Rattle.std.specs.Prelude.{ℕ, ◌*◌, ◌≤◌, ◌≡◌, List, [], length, take, Option, None, Some}
 use Rattle.std.proofs.lemmas.List.Edits.{sets}
 use Rattle.base.specs.Lent.{Lent, MutLent, before, before_mut, after}
 use Rattle.base.specs.Lists.{overwrite}
@@ -12,11 +12,10 @@ use Rattle.rewind_steps.specs.StepText.{record_text}
 use Rattle.rewind.specs.Stepping.{rewind_after, words_after}
 use Rattle.rewind.specs.Written.{stepped_with_text}
 use Rattle.rewind.specs.declared.Rewind.{Rewind}
-use Rattle.run_steps.specs.declared.RewindRun.{RewindRun}
+use Rattle.run_steps.specs.Running.{RunNumbers}
 use Rattle.usn_lines.specs.Listing.{Standing, standing, most_path, shown_path, onward, path_of, line, part, after_part, list_of, begins}
 use Rattle.usn_lines.specs.declared.Begun.{Begun}
 use Rattle.usn_lines.specs.declared.Put.{Put}
-use Rattle.usn_lines.specs.declared.next_path.TextStep.{TextStep}
 
 -- so many bytes are enough for any part
 abbrev pub most_part : ℕ
@@ -40,15 +39,15 @@ PassPromise journal records rewind forward r =
     Passes (onward (before journal) (before records) (standing (before_mut forward) rewind)) r (after forward)
 
 -- the run that a call answers, or one of no steps where it is refused
-abbrev pub run_or : Rewind → Outcome RewindRun → RewindRun
+abbrev pub run_or : Rewind → Outcome RunNumbers → RunNumbers
 run_or r (refused n) = record { steps = 0; stopped = 0; rewind = r }
 run_or r (answered x) = x
 
--- what a step with text comes to: how many are made, and the text of its path
-abbrev pub steps_made : Outcome (Next Step) → ℕ
-steps_made (refused n) = 0
-steps_made (answered ended) = 0
-steps_made (answered (next x)) = 1
+-- what a step with text comes to: where its path ends and the rewind after it, where one is made, and the text of the path
+abbrev pub put_of_step : List ℕ → Rewind → Outcome (Next Step) → Option Put
+put_of_step journal q (refused n) = None
+put_of_step journal q (answered ended) = None
+put_of_step journal q (answered (next x)) = Some (record { end = length (record_text journal [] x); rewind = rewind_after (answered (next x)) q })
 
 abbrev pub text_of_step : List ℕ → Outcome (Next Step) → List ℕ
 text_of_step journal (refused n) = []
@@ -56,14 +55,12 @@ text_of_step journal (answered ended) = []
 text_of_step journal (answered (next x)) = record_text journal [] x
 
 -- the step, with its text at the front of a lent one
-pub record StepsWithText (journal words : List ℕ) (q : Rewind) (text : List ℕ) (o : Outcome (Next Step)) (r : TextStep) (words' text' : List ℕ) : Type 0 where
-  pub steps-are : r.steps ≡ steps_made o
-  pub end_is : r.end ≡ length (text_of_step journal o)
-  pub state : r.rewind ≡ rewind_after o q
+pub record StepsWithText (journal words : List ℕ) (q : Rewind) (text : List ℕ) (o : Outcome (Next Step)) (r : Option Put) (words' text' : List ℕ) : Type 0 where
+  pub answer : r ≡ put_of_step journal q o
   pub forward : words' ≡ words_after o words
   pub written : text' ≡ overwrite text (text_of_step journal o)
 
-abbrev pub TextStepPromise : Lent → Lent → Rewind → MutLent → MutLent → TextStep → Type 0
+abbrev pub TextStepPromise : Lent → Lent → Rewind → MutLent → MutLent → Option Put → Type 0
 TextStepPromise journal records rewind forward text r =
     let o = stepped_with_text (before journal) [] (before records) (before_mut forward) rewind (length (before_mut text)) in
     StepsWithText (before journal) (before_mut forward) rewind (before_mut text) o r (after forward) (after text)

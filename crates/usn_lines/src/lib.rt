@@ -16,10 +16,10 @@ ghost use Rattle.usn_lines.specs.Listing.{numbers_at, last_line};
 ghost use Rattle.usn_lines.specs.Promise.{BeginPromise, StartPromise, LinePromise, PartPromise};
 
 use crate::next_path::put_path;
-use rewind::{Rewind, Started, rewind_start};
+use rewind::{Rewind, rewind_start};
 use usn_fields::fields::put_numbers;
-use usn_record::{Parsed, listed_record};
-use usn_scan::{Scanned, parse_usn_journal};
+use usn_record::listed_record;
+use usn_scan::parse_usn_journal;
 use utf16::decimal::put_decimal;
 use utf16::plain::{put_byte, put_bytes};
 
@@ -37,6 +37,12 @@ pub struct Put {
     pub rewind: Rewind,
 }
 
+// A rewind of no records, over an empty table.
+const NOTHING_REWOUND: Rewind = Rewind {
+    used: 0,
+    position: 0,
+};
+
 // The records of a journal of at most 65536 bytes, into a list of 2048 words: it has at most 1024, since each takes at least 64 bytes.
 // The rewind is started from an empty table, for which words are lent as for its forward table.
 pub fn begin(journal: &[u8], list: &mut [usize], first: &mut [u64], forward: &mut [u64]) -> Begun
@@ -44,18 +50,15 @@ pub fn begin(journal: &[u8], list: &mut [usize], first: &mut [u64], forward: &mu
     ensures { BeginPromise journal list first forward result }
 {
     match parse_usn_journal(journal, list) {
-        Scanned::Refused(_) => Begun {
-            records: 0,
-            rewind: Rewind {
-                used: 0,
-                position: 0,
-            },
-        },
-        Scanned::Records(n) => {
-            let end = 2 * n;
+        Ok(records) => {
+            let end = 2 * records;
             let rewind = start(journal, &list[..end], first, forward);
-            Begun { records: n, rewind }
+            Begun { records, rewind }
         }
+        Err(_) => Begun {
+            records: 0,
+            rewind: NOTHING_REWOUND,
+        },
     }
 }
 
@@ -64,11 +67,8 @@ fn start(journal: &[u8], records: &[usize], first: &mut [u64], forward: &mut [u6
     ensures { StartPromise journal records first forward result }
 {
     match rewind_start(journal, b"", records, first, 0, forward) {
-        Started::Refused(_) => Rewind {
-            used: 0,
-            position: 0,
-        },
-        Started::Begun(rewind) => rewind,
+        Ok(rewind) => rewind,
+        Err(_) => NOTHING_REWOUND,
     }
 }
 
@@ -129,8 +129,8 @@ fn put_record(journal: &[u8], offset: usize, text: &mut [u8]) -> usize
     ensures upper_bound { result ≤ 199 }
 {
     match listed_record(journal, offset) {
-        Parsed::Refused(_) => 0,
-        Parsed::Record(record) => put_numbers(text, offset, record),
+        Ok(record) => put_numbers(text, offset, record),
+        Err(_) => 0,
     }
 }
 

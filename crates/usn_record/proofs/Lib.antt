@@ -1,5 +1,4 @@
 pub mod ByteLaws
-pub mod SignedLaws
 pub mod FieldLaws
 pub mod ReferenceLaws
 pub mod RecordLaws

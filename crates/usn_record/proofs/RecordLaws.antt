@@ -20,7 +20,7 @@ use Rattle.base.specs.declared.Place.{Place}
 use Rattle.base.proofs.ChoiceLaws.{cond_cases, or_left, or_right, and-false}
 use Rattle.base.proofs.AgreeLaws.{agree-part, part_length, part-lent}
 use Rattle.usn_record.specs.Bytes.{le_at}
-use Rattle.usn_record.specs.Layout.{Layout, v2, v3}
+use Rattle.usn_record.specs.Layout.{Layout, v2, v3, layout_at}
 use Rattle.usn_record.specs.Fields.{timestamp_of, reference_of, filename_of}
 use Rattle.usn_record.specs.Record.{max_record, name_end, record_of, parsed, as_listed, listed}
 use Rattle.usn_record.specs.declared.Timestamp.{Timestamp}
@@ -154,11 +154,16 @@ pub record FieldsInside (l : Layout) : Type 0 where
   pub name_offset : l.name_offset + 2 ≤ l.fixed
   pub header : 8 ≤ l.fixed
 
+-- as those of a layout that is made of its numbers
+pub layout-inside : (parent tail : ℕ) (wide sequenced length_in_slice : Bool) (major : ℕ) → parent ≤ tail → FieldsInside (layout_at parent tail wide sequenced length_in_slice major)
+layout-inside p u true q h m k = record { file = omega arith; parent = omega arith; usn = omega arith; time = omega arith; reason = omega arith; source = omega arith; security = omega arith; attributes = omega arith; name_length = omega arith; name_offset = omega arith; header = omega arith }
+layout-inside p u false q h m k = record { file = omega arith; parent = omega arith; usn = omega arith; time = omega arith; reason = omega arith; source = omega arith; security = omega arith; attributes = omega arith; name_length = omega arith; name_offset = omega arith; header = omega arith }
+
 pub v2-inside : FieldsInside v2
-v2-inside = record { file = omega arith; parent = omega arith; usn = omega arith; time = omega arith; reason = omega arith; source = omega arith; security = omega arith; attributes = omega arith; name_length = omega arith; name_offset = omega arith; header = omega arith }
+v2-inside = layout-inside 16 24 false true true 2 (omega arith)
 
 pub v3-inside : FieldsInside v3
-v3-inside = record { file = omega arith; parent = omega arith; usn = omega arith; time = omega arith; reason = omega arith; source = omega arith; security = omega arith; attributes = omega arith; name_length = omega arith; name_offset = omega arith; header = omega arith }
+v3-inside = layout-inside 24 40 true false false 3 (omega arith)
 
 module _ (l : Layout) (k : FieldsInside l) where
   -- the fields read only the fixed part, and the length of the slice
@@ -216,10 +221,6 @@ name-lies l s = filename-lies (name_end l s) (le_at 2 s l.name_offset) (le_at 2 
 pub major-of : (l : Layout) (s : List ℕ) → (record_of l s).major_version ≡ l.major
 unfolding record_of
 major-of l s = refl
-
-pub record-length-of : (l : Layout) (s : List ℕ) → (record_of l s).record_length ≡ le_at 4 s 0
-unfolding record_of
-record-length-of l s = refl
 
 -- the ways out of `listed`, with n and v the length and version as they were read
 module _ (s : List ℕ) (o : ℕ) where

@@ -2,7 +2,7 @@
 use Prim.Native.Nat.{ℕ, ◌+◌, ◌*◌, ◌^◌, ◌≤◌}
 use mathlib.Core.Path.{◌≡◌, refl, sym, ap, ◌∙◌}
 use mathlib.Core.List.{List}
-use mathlib.Core.Bool.{cond, true, false}
+use mathlib.Core.Bool.{cond, false}
 use native.Mathlib.Omega.{arith}
 use lib.ListN.{length}
 use lib.Dec.{ltb, eqb}
@@ -22,16 +22,21 @@ use Rattle.usn_record.specs.declared.references.References.{References}
 use Rattle.usn_record.proofs.ByteLaws.{read_past, read-part}
 use Rattle.usn_record.proofs.RecordLaws.{accepts, FieldsInside, v2-inside, v3-inside}
 
-module _ (s : List ℕ) (o : ℕ) {a b : Reference} where
-  pub read-v2 : {v : ℕ} → v ≡ le_at 2 s (o + 4) → v ≡ 2 → a ≡ reference_of true (le_at (cond false 16 8) s (o + 8))
-      → b ≡ reference_of true (le_at (cond false 16 8) s (o + 16)) → ◌≡◌ {A = References} (record { file = a; parent = b }) (references_at s o)
-  unfolding references_at references_by
-  read-v2 ev e ea eb = simp (sym ev, e, ea, eb)
+-- by the version that was read there
+module _ (s : List ℕ) (o : ℕ) {v : ℕ} (e : v ≡ le_at 2 s (o + 4)) {x : References} where
+  pub references-v2 : v ≡ 2 → x ≡ references_by v2 s o → x ≡ references_at s o
+  unfolding references_at
+  references-v2 h f = f ∙ simp (sym e, h)
 
-  pub read-v3 : {v : ℕ} → v ≡ le_at 2 s (o + 4) → (v ≡ 2 → ⊥) → a ≡ reference_of false (le_at (cond true 16 8) s (o + 8))
-      → b ≡ reference_of false (le_at (cond true 16 8) s (o + 24)) → ◌≡◌ {A = References} (record { file = a; parent = b }) (references_at s o)
-  unfolding references_at references_by
-  read-v3 {v} ev e ea eb = simp (sym ev, ne_eqb v 2 e, ea, eb)
+  pub references-v3 : (v ≡ 2 → ⊥) → x ≡ references_by v3 s o → x ≡ references_at s o
+  unfolding references_at
+  references-v3 h f = f ∙ simp (sym e, ne_eqb v 2 h)
+
+module _ (s : List ℕ) (o : ℕ) {a b : Reference} where
+  pub references-read : (l : Layout) → a ≡ reference_of l.sequenced (le_at l.reference s (o + l.file)) → b ≡ reference_of l.sequenced (le_at l.reference s (o + l.parent))
+      → ◌≡◌ {A = References} (record { file = a; parent = b }) (references_by l s o)
+  unfolding references_by
+  references-read l e f = rw (e, f)
 
   pub read-nothing : length s ≤ o → a ≡ reference_of false (0 + 0 * 2 ^ 64) → b ≡ reference_of false (0 + 0 * 2 ^ 64)
       → ◌≡◌ {A = References} (record { file = a; parent = b }) (references_at s o)

@@ -1,13 +1,13 @@
 -- Whether a record is listed, by its length and version alone: the part that its parser is handed is as long as its length field, so only the
 -- tests of that length can refuse it. Holds of any layout. Assumes nothing.
-use Prim.Native.Nat.{ℕ, ◌+◌, ◌-◌, ◌≤◌, ◌<◌}
+use Prim.Native.Nat.{ℕ, ◌+◌, ◌-◌, ◌≤◌}
 use mathlib.Core.Path.{◌≡◌, refl, sym, ap, ◌∙◌}
 use mathlib.Core.List.{List}
 use mathlib.Core.Bool.{Bool, true, false, true≢false}
 use native.Mathlib.Omega.{arith}
 use lib.ListN.{length, take, drop}
 use lib.Dec.{leb}
-use borrow.Author.Tests.{le-leb, lt-leb, leb-true}
+use borrow.Author.Tests.{le-leb, leb-true}
 use Rattle.base.specs.Outcome.{Outcome, refused, answered}
 use Rattle.base.specs.Places.{part}
 use Rattle.base.proofs.ChoiceLaws.{and_left, and_right}
@@ -17,15 +17,6 @@ use Rattle.usn_record.specs.Layout.{Layout}
 use Rattle.usn_record.specs.Record.{max_record, parsed, as_listed, listed, is_answered, fits_record}
 use Rattle.usn_record.specs.declared.UsnRecord.{UsnRecord}
 use Rattle.usn_record.proofs.RecordLaws.{Accepts, accepts, accepted, FieldsInside, part-length-field, part-accepts}
-
--- the tests of a length, one after the other
-pub fits_below : (fixed n : ℕ) → n < fixed → false ≡ fits_record fixed n
-unfolding fits_record
-fits_below fixed n h = simp (lt-leb _ _ h)
-
-pub fits-from : (fixed n : ℕ) → fixed ≤ n → leb n max_record ≡ fits_record fixed n
-unfolding fits_record
-fits-from fixed n h = simp (le-leb _ _ h)
 
 -- a refusal's number does not matter
 answered-listed : (x : Outcome UsnRecord) → is_answered (as_listed x) ≡ is_answered x

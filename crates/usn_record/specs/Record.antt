@@ -9,8 +9,6 @@ use Rattle.usn_record.specs.Bytes.{le_at}
 use Rattle.usn_record.specs.Layout.{Layout, v2, v3}
 use Rattle.usn_record.specs.Fields.{timestamp_of, reference_of, filename_of}
 use Rattle.usn_record.specs.declared.UsnRecord.{UsnRecord}
-use Rattle.usn_record.specs.declared.Parsed.{Parsed}
-use Rattle.usn_record.specs.declared.Parsed.TheVariants.{Record, Refused}
 
 -- the smallest record of any version, one of version 4, and the largest
 abbrev pub min_record : ℕ
@@ -84,11 +82,6 @@ is_answered (answered a) = true
 -- a record with a fixed part of so many bytes may have length n
 unfoldable pub fits_record : ℕ → ℕ → Bool
 fits_record fixed n = leb fixed n && leb n max_record
-
--- what a parser's answer says
-abbrev pub outcome : Parsed → Outcome UsnRecord
-outcome (Record r) = answered r
-outcome (Refused n) = refused n
 
 -- a record as a row of words, a signed number by its 64 bits
 unfoldable pub record_words : UsnRecord → List ℕ

@@ -1,6 +1,7 @@
 // Little-endian reads over untrusted bytes: a read that runs past the slice is 0. And the bits of a signed number.
 //
-// Each read is made of two reads of half its width, which the compiler joins into one load after the range test.
+// Each read is made of two reads of half its width, which the compiler joins into one load after the range test. One read of N bytes
+// for every width, by the library's `from_le_bytes`, takes the carver a tenth more time.
 ghost use Rattle.std.specs.Prelude.{◌≡◌, ◌<◌};
 ghost use Rattle.std.specs.Int.{w64};
 ghost use Rattle.std.proofs.Common.{of_z};
@@ -62,7 +63,7 @@ pub fn le_u64(data: &[u8], offset: usize) -> u64
 pub fn signed_bits(z: i64) -> u64
     ensures { result ≡ of_z w64 z }
 {
-    if z < 0 { !((!z) as u64) } else { z as u64 }
+    z.cast_unsigned()
 }
 
 fn wide(x: u8) -> u16

@@ -7,6 +7,7 @@ ghost use Rattle.usn_record.specs.Fields.{timestamp_of, reference_of, filename_o
 
 use crate::Timestamp;
 use crate::bytes::le_u64;
+use crate::layout::Version;
 use base::Place;
 
 // Ticks of 100 nanoseconds from the start of 1601, where FILETIME begins, to that of 1970.
@@ -24,24 +25,14 @@ pub struct Reference {
 pub(crate) fn signed(bits: u64) -> i64
     ensures { result ≡ to_z w64 bits }
 {
-    if bits < 0x8000_0000_0000_0000 {
-        bits as i64
-    } else {
-        !((!bits) as i64)
-    }
+    bits.cast_signed()
 }
 
 // A FILETIME, by its bits, as seconds and nanoseconds since 1970; one before that, also a negative one, is 0, 0.
 pub(crate) fn filetime_to_timestamp(bits: u64) -> Timestamp
     ensures { result ≡ timestamp_of (to_z w64 bits) }
 {
-    if 0x8000_0000_0000_0000 <= bits {
-        return Timestamp {
-            seconds: 0,
-            nanoseconds: 0,
-        };
-    }
-    if bits < EPOCH_DIFF {
+    if 0x8000_0000_0000_0000 <= bits || bits < EPOCH_DIFF {
         return Timestamp {
             seconds: 0,
             nanoseconds: 0,
@@ -54,24 +45,20 @@ pub(crate) fn filetime_to_timestamp(bits: u64) -> Timestamp
     }
 }
 
-// The file reference at an offset: 16 bytes where it is wide, else 8. One that runs past the slice is 0.
-pub(crate) fn read_reference(data: &[u8], at: usize, wide: bool, sequenced: bool) -> Reference
-    ensures { result ≡ reference_of sequenced (le_at (cond wide 16 8) «data».now at) }
+// The file reference at an offset, as version V has it. One that runs past the slice is 0.
+pub(crate) fn read_reference<V: Version>(data: &[u8], at: usize) -> Reference
+    ensures { result ≡ reference_of V.SEQUENCED (le_at (cond V.WIDE 16 8) «data».now at) }
 {
     let low = le_u64(data, at);
-    if wide {
-        let n = data.len();
-        if n < 16 {
-            return parts_of(0, 0, sequenced);
-        }
-        if n - 16 < at {
-            return parts_of(0, 0, sequenced);
-        }
-        let high = le_u64(data, at + 8);
-        parts_of(low, high, sequenced)
-    } else {
-        parts_of(low, 0, sequenced)
+    if !V::WIDE {
+        return parts_of(low, 0, V::SEQUENCED);
     }
+    let n = data.len();
+    if n < 16 || n - 16 < at {
+        return parts_of(0, 0, V::SEQUENCED);
+    }
+    let high = le_u64(data, at + 8);
+    parts_of(low, high, V::SEQUENCED)
 }
 
 // The parts of the reference low + high * 2 ^ 64.
@@ -100,13 +87,7 @@ pub(crate) fn filename_place(end: usize, offset: u16, length: u16) -> Place
 {
     let o = offset as usize;
     let n = length as usize;
-    if n < 2 {
-        return Place {
-            offset: 0,
-            length: 0,
-        };
-    }
-    if end < o + n {
+    if n < 2 || end < o + n {
         return Place {
             offset: 0,
             length: 0,

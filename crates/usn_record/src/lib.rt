@@ -1,24 +1,27 @@
 // One USN record, version 2 or 3: the parsers, and the record that stands at an offset of an extract.
 //
-// Every function here is proved. No call has a `requires`: any slice gets an answer, a record or a refusal by its number.
+// Every function here is proved. No call has a `requires`: any slice gets an answer, a record or a refusal.
 #![tactic(auto)]
 
 pub mod bytes;
 pub mod fields;
 pub mod layout;
 pub mod listed;
-mod parse;
+pub mod parse;
 pub mod references;
+pub mod words;
 pub mod zeros;
 
 ghost use Rattle.std.specs.Prelude.{◌≡◌};
 ghost use Rattle.usn_record.specs.Layout.{v2, v3};
-ghost use Rattle.usn_record.specs.Record.{outcome, parsed, listed, as_listed};
+ghost use Rattle.base.specs.Outcome.{outcome};
+ghost use Rattle.usn_record.specs.Record.{parsed, listed, as_listed};
 
 use crate::bytes::{le_u16, le_u32};
-use crate::layout::{MAJOR_VERSION, PARENT_REFERENCE_V2, PARENT_REFERENCE_V3, USN_V2, USN_V3};
+use crate::layout::{MAJOR_VERSION, V2, V3};
 use crate::parse::parse;
-use base::{NOT_A_RECORD, Place};
+use base::Place;
+use base::refusal::Refusal;
 
 // Seconds and nanoseconds since 1970.
 #[derive(Clone, Copy)]
@@ -56,61 +59,52 @@ pub struct UsnRecord {
     pub parent_reference_high: u64,
 }
 
-// What a parser answers: the record, or a refusal's number.
-#[derive(Clone, Copy)]
-pub enum Parsed {
-    Record(UsnRecord),
-    Refused(u32),
-}
-
 // The version 2 record that data begins with. The version field is not read.
 // Refused: 1 data is above the domain, 2 shorter than 60 bytes, 3 the length field is outside 60..65536, 4 it passes data.
-pub fn parse_usn_record_v2(data: &[u8]) -> Parsed
+pub fn parse_usn_record_v2(data: &[u8]) -> Result<UsnRecord, Refusal>
     ensures { outcome result ≡ parsed v2 «data».now }
 {
-    parse(data, PARENT_REFERENCE_V2, USN_V2, false, true, true, 2)
+    parse::<V2>(data)
 }
 
 // The version 3 record that data begins with. The version field is not read.
 // Refused: 1 data is above the domain, 2 shorter than 76 bytes, 3 the length field is outside 76..65536.
-pub fn parse_usn_record_v3(data: &[u8]) -> Parsed
+pub fn parse_usn_record_v3(data: &[u8]) -> Result<UsnRecord, Refusal>
     ensures { outcome result ≡ parsed v3 «data».now }
 {
-    parse(data, PARENT_REFERENCE_V3, USN_V3, true, false, false, 3)
+    parse::<V3>(data)
 }
 
 // The record at an offset of an extract, taken by its offset alone: its parser is handed the part that begins there and is
 // as long as its length field, from which the name's place counts.
 // Refused: 12 fewer than 8 bytes are left, the length passes the end, the version is not 2 or 3, or the parser refuses.
-pub fn listed_record(extract: &[u8], offset: usize) -> Parsed
+#[inline(always)]
+pub fn listed_record(extract: &[u8], offset: usize) -> Result<UsnRecord, Refusal>
     ensures { outcome result ≡ listed extract.now offset }
 {
     let size = extract.len();
     if size < 8 {
-        return Parsed::Refused(NOT_A_RECORD);
+        return Err(Refusal::NotARecord);
     }
     if size - 8 < offset {
-        return Parsed::Refused(NOT_A_RECORD);
+        return Err(Refusal::NotARecord);
     }
     let length = le_u32(extract, offset) as usize;
     if size - offset < length {
-        return Parsed::Refused(NOT_A_RECORD);
+        return Err(Refusal::NotARecord);
     }
     let end = offset + length;
     let version = le_u16(extract, offset + MAJOR_VERSION);
     match version {
-        2 => not_a_record(parse_usn_record_v2(&extract[offset..end])),
-        3 => not_a_record(parse_usn_record_v3(&extract[offset..end])),
-        _ => Parsed::Refused(NOT_A_RECORD),
+        2 => not_a_record(parse::<V2>(&extract[offset..end])),
+        3 => not_a_record(parse::<V3>(&extract[offset..end])),
+        _ => Err(Refusal::NotARecord),
     }
 }
 
 // A parser's answer about a listed offset: every refusal is 12.
-fn not_a_record(p: Parsed) -> Parsed
-    ensures { outcome result ≡ as_listed (outcome p) }
+fn not_a_record(parsed: Result<UsnRecord, Refusal>) -> Result<UsnRecord, Refusal>
+    ensures { outcome result ≡ as_listed (outcome parsed) }
 {
-    match p {
-        Parsed::Record(r) => Parsed::Record(r),
-        Parsed::Refused(_) => Parsed::Refused(NOT_A_RECORD),
-    }
+    parsed.map_err(|_| Refusal::NotARecord)
 }

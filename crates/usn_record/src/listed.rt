@@ -33,8 +33,5 @@ pub fn is_listed(extract: &[u8], offset: usize) -> bool
 fn fits_record(fixed: usize, length: usize) -> bool
     ensures { result ≡ fits_record fixed length }
 {
-    if length < fixed {
-        return false;
-    }
-    length <= USN_MAX_RECORD_SIZE
+    fixed <= length && length <= USN_MAX_RECORD_SIZE
 }

@@ -5,6 +5,8 @@ use crate::bytes::le_u64;
 
 // An offset from o on up to which there are zero words of 8 bytes alone: four are passed at a time, up to four of which one is
 // not zero. Where the word at o is not zero it is o, after one read.
+//
+// The loop counts the offset, which is the answer: a loop over chunks would have to make it of their number again.
 pub fn skip_zeros(data: &[u8], o: usize) -> usize
     ensures { PastZeros «data».now o result }
 {

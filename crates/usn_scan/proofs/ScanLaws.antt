@@ -8,6 +8,7 @@ use native.Mathlib.Omega.{arith}
 use lib.ListN.{length, length-append}
 use lib.Dec.{ltb, eqb}
 use borrow.Author.Tests.{ltb-false, eqb-true}
+use Rattle.std.specs.Iterator.{Yields, Drains, YieldsFirst}
 use Rattle.base.specs.Lists.{All}
 use Rattle.base.specs.Walk.{Visit, stop, go, going_on, walk, from}
 use Rattle.base.specs.declared.Place.{Place}
@@ -17,7 +18,7 @@ use Rattle.usn_record.specs.Bytes.{le_at}
 use Rattle.usn_record.specs.Layout.{v2, v3}
 use Rattle.usn_record.specs.Record.{min_record, max_record}
 use Rattle.usn_record.specs.Names.{fixed_of}
-use Rattle.usn_scan.specs.Scan.{Kind, end, word, kind_record, range_record, kind_by_version, kind_of, Event, recorded, ranged, scan_visit_as, version_at, kind_at, scan_visit, record_places, scanned}
+use Rattle.usn_scan.specs.Scan.{Kind, end, word, kind_record, range_record, kind_by_version, kind_of, Event, recorded, ranged, scan_visit_as, version_at, kind_at, scan_visit, events_from, record_places, scanned}
 use Rattle.usn_scan.specs.Step.{scan_visit_of}
 use Rattle.usn_scan.specs.declared.step.ScanStep.{ScanStep}
 
@@ -127,3 +128,17 @@ module _ (s : List ℕ) where
   -- what is left of the scan at o, by what the step there is
   pub rest : (o : ℕ) {r t : ScanStep} → r ≡ t → scan_visit_of r ≡ scan_visit s o → Left (scan_visit s) (length s) o (scan_visit_of t)
   rest o {t = t} e f = left (scan_visit s) (length s) visit-forward o (scan_visit_of t) (ap scan_visit_of (sym e) ∙ f)
+
+  -- what is left at the start is all
+  pub from-start : {t : List ℕ} {o : ℕ} → (t ≡ s) × (o ≡ 0) → record_places (events_from t o) ≡ scanned s
+  unfolding scanned
+  from-start e = rw (e.0, e.1)
+
+-- an iterator that shows what is left gives all of it
+module _ {S A : Type 0} (todo : S → List A) where
+  yielded : (s : S) (xs : List A) (t : S) → Yields (YieldsFirst todo) s xs t → todo t ≡ [] → xs ≡ todo s
+  yielded s [] t y e = sym (ap todo y ∙ e)
+  yielded s (x ∷ xs) t y e = ap (λ (r : List A). x ∷ r) (yielded y.0 xs t y.2 e) ∙ sym y.1
+
+  pub drained : (s : S) (xs : List A) → Drains (YieldsFirst todo) s xs → xs ≡ todo s
+  drained s xs d = yielded s xs d.1.0 d.1.1 d.1.2.0

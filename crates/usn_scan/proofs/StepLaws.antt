@@ -3,22 +3,21 @@
 use Prim.Native.Nat.{ℕ, ◌+◌, ◌-◌, ◌≤◌, ◌<◌}
 use mathlib.Core.Path.{◌≡◌, sym, ap, ◌∙◌}
 use mathlib.Core.List.{List, [], ◌∷◌}
-use mathlib.Core.Bool.{false}
+use mathlib.Core.Bool.{false, cond}
 use native.Mathlib.Omega.{arith}
 use lib.ListN.{length, take, drop}
 use lib.Dec.{ltb}
 use borrow.Author.Tests.{lt-ltb, le-ltb, ne_eqb}
-use Rattle.base.specs.Outcome.{Outcome}
-use Rattle.base.specs.Places.{round8}
+use Rattle.base.specs.Outcome.{refused, answered}
+use Rattle.base.specs.Places.{round8, part}
 use Rattle.base.specs.Walk.{Visit, stop, go}
 use Rattle.base.proofs.AgreeLaws.{part-lent}
 use Rattle.usn_record.specs.Bytes.{le_at}
 use Rattle.usn_record.specs.Layout.{Layout, v2, v3}
-use Rattle.usn_record.specs.Record.{min_record, max_record, parsed}
-use Rattle.usn_record.specs.declared.UsnRecord.{UsnRecord}
-use Rattle.usn_record.proofs.RecordLaws.{FieldsInside, v2-inside, v3-inside, part-accepted}
-use Rattle.usn_scan.specs.Scan.{kind_record, kind_by_version, kind_of, Event, ranged, scan_visit_as, version_at, scan_visit}
-use Rattle.usn_scan.specs.Step.{Lying, parsed_visit}
+use Rattle.usn_record.specs.Record.{min_record, max_record, record_of, parsed}
+use Rattle.usn_record.proofs.RecordLaws.{FieldsInside, part-accepted}
+use Rattle.usn_scan.specs.Scan.{word, kind_record, kind_by_version, kind_of, Event, recorded, ranged, scan_visit_as, version_at, scan_visit}
+use Rattle.usn_scan.specs.Step.{Lying}
 
 -- the visit of n bytes that lie inside, by the version field
 abbrev pub by_version : List ℕ → ℕ → ℕ → Visit Event
@@ -53,13 +52,13 @@ module _ (s : List ℕ) (o : ℕ) where
 
 -- by the version field v
 module _ (s : List ℕ) (o n : ℕ) {v : ℕ} (f : v ≡ version_at s o) where
-  pub version-2-short : v ≡ 2 → n < v2.fixed → go [] (o + 8) ≡ by_version s o n
+  pub version-2 : v ≡ 2 → {x : Visit Event} → x ≡ scan_visit_as o n (cond (ltb n v2.fixed) word kind_record) → x ≡ by_version s o n
   unfolding kind_by_version
-  version-2-short h k = simp (sym f, h, lt-ltb n v2.fixed k)
+  version-2 h e = e ∙ simp (sym f, h)
 
-  pub version-3-short : v ≡ 3 → n < v3.fixed → go [] (o + 8) ≡ by_version s o n
+  pub version-3 : v ≡ 3 → {x : Visit Event} → x ≡ scan_visit_as o n (cond (ltb n v3.fixed) word kind_record) → x ≡ by_version s o n
   unfolding kind_by_version
-  version-3-short h k = simp (sym f, h, lt-ltb n v3.fixed k)
+  version-3 h e = e ∙ simp (sym f, h)
 
   pub version-4 : v ≡ 4 → {p : ℕ} → p ≡ o + round8 n → go (ranged (record { offset = o; length = n }) ∷ []) p ≡ by_version s o n
   unfolding kind_by_version
@@ -69,16 +68,16 @@ module _ (s : List ℕ) (o n : ℕ) {v : ℕ} (f : v ≡ version_at s o) where
   unfolding kind_by_version
   version-other h k m = simp (sym f, ne_eqb v 2 h, ne_eqb v 3 k, ne_eqb v 4 m)
 
-  -- y is what the parser said of the part that was lent to it
-  module _ (i : Lying s o n) {x : Visit Event} {y : Outcome UsnRecord} (w : x ≡ parsed_visit o n y) where
-    taken : (l : Layout) → FieldsInside l → l.fixed ≤ n → y ≡ parsed l (take (o + n - o) (drop o s)) → x ≡ scan_visit_as o n kind_record
-    taken l j k q =
-        w ∙ ap (parsed_visit o n) (q ∙ ap (parsed l) (part-lent s o n) ∙ part-accepted l j s o i.size i.inside k i.most)
+-- n bytes of a version: without its fixed part a word, else a record
+module _ (o n fixed : ℕ) where
+  pub record-short : n < fixed → go [] (o + 8) ≡ scan_visit_as o n (cond (ltb n fixed) word kind_record)
+  record-short h = simp (lt-ltb n fixed h)
 
-    pub version-2 : v ≡ 2 → v2.fixed ≤ n → y ≡ parsed v2 (take (o + n - o) (drop o s)) → x ≡ by_version s o n
-    unfolding kind_by_version
-    version-2 h k q = taken v2 v2-inside k q ∙ simp (sym f, h, le-ltb n v2.fixed k)
+  pub record-taken : fixed ≤ n → {p : ℕ} → p ≡ o + round8 n → go (recorded (record { offset = o; length = n }) ∷ []) p ≡ scan_visit_as o n (cond (ltb n fixed) word kind_record)
+  record-taken h e = simp (le-ltb n fixed h, e)
 
-    pub version-3 : v ≡ 3 → v3.fixed ≤ n → y ≡ parsed v3 (take (o + n - o) (drop o s)) → x ≡ by_version s o n
-    unfolding kind_by_version
-    version-3 h k q = taken v3 v3-inside k q ∙ simp (sym f, h, le-ltb n v3.fixed k)
+-- which the parser accepts
+pub never-refused : (l : Layout) (s : List ℕ) (o n : ℕ) → FieldsInside l → Lying s o n → l.fixed ≤ n → {m : ℕ} → refused m ≡ parsed l (take (o + n - o) (drop o s)) → ⊥
+never-refused l s o n j i h {m} e =
+    let z : refused m ≡ answered (record_of l (part s o n)) = e ∙ ap (parsed l) (part-lent s o n) ∙ part-accepted l j s o i.size i.inside h i.most in
+    let y : ◌≡◌ {A = ℕ} 0 1 = cc in omega arith

@@ -5,8 +5,6 @@ use Rattle.base.specs.Outcome.{Outcome, refused, answered, map_outcome, listed_b
 use Rattle.base.specs.Refusals.{above_domain, list_full, domain}
 use Rattle.base.specs.declared.Place.{Place}
 use Rattle.usn_scan.specs.Scan.{scanned}
-use Rattle.usn_scan.specs.declared.Scanned.{Scanned}
-use Rattle.usn_scan.specs.declared.Scanned.TheVariants.{Records, Refused}
 
 -- the scan of s with a list of so many words, two for each record: the refusals in their order, and the records
 unfoldable pub scan : List ℕ → ℕ → Outcome (List Place)
@@ -26,8 +24,3 @@ scan_list s l = list_after (flatten place_words) (scan s (length l)) l
 -- the records that a scan lists: none where it is refused
 abbrev pub listing : Outcome (List Place) → List Place
 listing = listed_by (λ ps. ps)
-
--- what the call's answer says
-abbrev pub scan_outcome : Scanned → Outcome ℕ
-scan_outcome (Records n) = answered n
-scan_outcome (Refused n) = refused n

@@ -1,16 +1,18 @@
 // One visit of the scan: what stands at an offset of an extract, and where to go on.
-ghost use Rattle.std.specs.Prelude.{◌≡◌, ◌+◌, ◌≤◌, length};
+ghost use Rattle.std.specs.Prelude.{◌≡◌, ◌+◌, ◌≤◌, cond, ltb};
 ghost use Rattle.base.specs.Places.{round8};
 ghost use Rattle.base.specs.Refusals.{domain};
-ghost use Rattle.usn_record.specs.Record.{outcome, max_record};
-ghost use Rattle.usn_scan.specs.Scan.{kind_by_version, scan_visit_as, version_at, scan_visit};
-ghost use Rattle.usn_scan.specs.Step.{Lying, scan_visit_of, parsed_visit};
+ghost use Rattle.usn_record.specs.Record.{max_record};
+ghost use Rattle.usn_scan.specs.Scan.{word, kind_record, kind_by_version, scan_visit_as, version_at, scan_visit};
+ghost use Rattle.usn_scan.specs.Step.{Lying, scan_visit_of};
 
+use crate::extract::Extract;
+use base::Place;
 use usn_record::bytes::{le_u16, le_u32};
 use usn_record::layout::{
-    MAJOR_VERSION, USN_MAX_RECORD_SIZE, USN_V2_MIN_SIZE, USN_V3_MIN_SIZE, USN_V4_MIN_SIZE,
+    MAJOR_VERSION, SHARED, USN_MAX_RECORD_SIZE, USN_V4_MIN_SIZE, V2, V3, Version,
 };
-use usn_record::{Parsed, parse_usn_record_v2, parse_usn_record_v3};
+use usn_record::parse::parse;
 
 // What a visit says: stop, go on at the next offset, or the place of a record and the offset past it. A version 4 record tracks
 // changed ranges and is a range.
@@ -18,36 +20,21 @@ use usn_record::{Parsed, parse_usn_record_v2, parse_usn_record_v3};
 pub enum ScanStep {
     Stop,
     Move(usize),
-    Record {
-        offset: usize,
-        length: usize,
-        next: usize,
-    },
-    Range {
-        offset: usize,
-        length: usize,
-        next: usize,
-    },
+    Record(Place, usize),
+    Range(Place, usize),
 }
 
 // The visit at an offset: no room for a header, or a length that passes the end, stops the scan; a length that no record has moves
 // on a word of 8 bytes, and so do zero words.
-pub(crate) fn scan_step(extract: &[u8], o: usize) -> ScanStep
-    requires { length extract.now ≤ domain }
-    ensures { scan_visit_of result ≡ scan_visit extract.now o }
+pub(crate) fn scan_step(extract: Extract, o: usize) -> ScanStep
+    ensures { scan_visit_of result ≡ scan_visit extract.entry.bytes.now o }
 {
-    let size = extract.len();
-    if size < 8 {
+    let size = extract.bytes.len();
+    if size < 8 || size - 8 < o {
         return ScanStep::Stop;
     }
-    if size - 8 < o {
-        return ScanStep::Stop;
-    }
-    let n = le_u32(extract, o) as usize;
-    if n < USN_V4_MIN_SIZE {
-        return ScanStep::Move(o + 8);
-    }
-    if USN_MAX_RECORD_SIZE < n {
+    let n = le_u32(extract.bytes, o) as usize;
+    if n < USN_V4_MIN_SIZE || USN_MAX_RECORD_SIZE < n {
         return ScanStep::Move(o + 8);
     }
     if size - o < n {
@@ -56,51 +43,45 @@ pub(crate) fn scan_step(extract: &[u8], o: usize) -> ScanStep
     version_step(extract, o, n)
 }
 
-// The visit of n bytes that lie inside, by the version: a version 2 or 3 record goes to its parser as the part that begins at its
-// offset and is as long as its length field, a version 4 record is a range, and anything else moves on 8.
-fn version_step(extract: &[u8], o: usize, n: usize) -> ScanStep
-    requires { Lying extract.now o n }
-    ensures { scan_visit_of result ≡ scan_visit_as o n (kind_by_version n (version_at extract.now o)) }
+// The visit of n bytes that lie inside, by the version: a version 4 record is a range, and anything but 2, 3 and 4 moves on 8.
+fn version_step(extract: Extract, o: usize, n: usize) -> ScanStep
+    requires { Lying extract.bytes.now o n }
+    ensures { scan_visit_of result ≡ scan_visit_as o n (kind_by_version n (version_at extract.entry.bytes.now o)) }
 {
-    let e = o + n;
-    let version = le_u16(extract, o + MAJOR_VERSION);
+    let version = le_u16(extract.bytes, o + MAJOR_VERSION);
     match version {
-        2 => {
-            if n < USN_V2_MIN_SIZE {
-                ScanStep::Move(o + 8)
-            } else {
-                record_step(parse_usn_record_v2(&extract[o..e]), o, n)
-            }
-        }
-        3 => {
-            if n < USN_V3_MIN_SIZE {
-                ScanStep::Move(o + 8)
-            } else {
-                record_step(parse_usn_record_v3(&extract[o..e]), o, n)
-            }
-        }
-        4 => ScanStep::Range {
-            offset: o,
-            length: n,
-            next: past_record(o, n),
-        },
+        2 => record_step::<V2>(extract, o, n),
+        3 => record_step::<V3>(extract, o, n),
+        4 => ScanStep::Range(
+            Place {
+                offset: o,
+                length: n,
+            },
+            past_record(o, n),
+        ),
         _ => ScanStep::Move(o + 8),
     }
 }
 
-// The visit of a record of so many bytes, by what its parser says: a refused one is passed over.
-fn record_step(p: Parsed, offset: usize, length: usize) -> ScanStep
-    requires { (offset ≤ domain) × (length ≤ max_record) }
-    ensures { scan_visit_of result ≡ parsed_visit offset length (outcome p) }
+// The visit of n bytes of version V that lie inside: where the fixed part has room, the part that begins at the offset and is as long as
+// the length field goes to the parser, and one that it refuses is passed over.
+fn record_step<V: Version>(extract: Extract, o: usize, n: usize) -> ScanStep
+    requires { Lying extract.bytes.now o n }
+    ensures { scan_visit_of result ≡ scan_visit_as o n (cond (ltb n V.layout.fixed) word kind_record) }
 {
-    let next = past_record(offset, length);
-    match p {
-        Parsed::Record(_) => ScanStep::Record {
-            offset,
-            length,
+    if n < V::USN + SHARED {
+        return ScanStep::Move(o + 8);
+    }
+    let next = past_record(o, n);
+    match parse::<V>(&extract.bytes[o..o + n]) {
+        Ok(_) => ScanStep::Record(
+            Place {
+                offset: o,
+                length: n,
+            },
             next,
-        },
-        Parsed::Refused(_) => ScanStep::Move(next),
+        ),
+        Err(_) => ScanStep::Move(next),
     }
 }
 

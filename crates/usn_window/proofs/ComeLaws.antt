@@ -1,5 +1,6 @@
 -- What a search answers, followed by what is to come from the window that it leaves, is what was to come; and nothing is to come after an
 -- end. Assumes nothing.
+use Rattle.std.specs.Prelude.{Ok}
 use Prim.Native.Nat.{ℕ, zero, suc, ◌+◌, ◌-◌, ◌<◌}
 use mathlib.Core.Path.{◌≡◌, refl, sym, ap, ◌∙◌}
 use mathlib.Core.List.{List, [], ◌++◌}
@@ -20,6 +21,7 @@ use Rattle.usn_window.specs.Rule.{journal_reads, or_end, past_end, given, turn_b
 use Rattle.usn_window.specs.Journal.{WindowStep, onto, found, refill_to, step_at, after_step, to_come}
 use Rattle.usn_window.specs.Run.{place_of, coming, GivesRecord}
 use Rattle.usn_window.specs.declared.UsnJournalReader.{UsnJournalReader}
+use Rattle.usn_window.specs.Answers.{Answered}
 use Rattle.usn_window.specs.declared.Answer.TheVariants.{Record, Wants, End}
 use Rattle.usn_window.specs.declared.Reading.{Reading}
 use Rattle.usn_window.specs.declared.turn.Turn.{Turn}
@@ -37,7 +39,7 @@ pub record Comes (s : List ℕ) (l : List Place) (x : Reading) : Type 0 where
   pub whole : l ≡ place_of x.answer ++ coming s x.reader
   pub over : Over s x.reader
   pub tells : GivesRecord s x.answer x.reader
-  pub ends : x.answer ≡ End → l ≡ []
+  pub ends : x.answer ≡ (Ok End) → l ≡ []
   pub quiet : x.reader.ended ≡ true → coming s x.reader ≡ []
 
 abbrev ComesTurn : List ℕ → List Place → Turn → Type 0
@@ -48,7 +50,7 @@ module _ (s : List ℕ) (w : UsnJournalReader) (ov : Over s w) (live : w.ended �
   abbrev Both : WindowStep → Turn → Type 0
   Both x t = coming s w ≡ after_step x (to_come s) → GoesSteady s x → ComesTurn s (coming s w) t
 
-  not_end : {f k : ℕ} → Wants f k ≡ End → ⊥
+  not_end : {f k : ℕ} → ◌≡◌ {A = Answered} (Ok (Wants f k)) (Ok End) → ⊥
   not_end e = let z : ◌≡◌ {A = ℕ} 0 1 = cc in omega arith
 
   awake : {t : Bool} → t ≡ w.ended → t ≡ true → ⊥
@@ -80,7 +82,7 @@ module _ (s : List ℕ) (w : UsnJournalReader) (ov : Over s w) (live : w.ended �
         quiet = λ f. absurd (true≢false (sym f ∙ live));
       }
     where
-      not-record : {o k : ℕ} {y : UsnRecord} → Record o k y ≡ End → ⊥
+      not-record : {o k : ℕ} {y : UsnRecord} → ◌≡◌ {A = Answered} (Ok (Record o k y)) (Ok End) → ⊥
       not-record f = let z : ◌≡◌ {A = ℕ} 0 1 = cc in omega arith
 
   both-turn : Both (step_at s w.position w.end) (turn_of (journal_reads s) w)

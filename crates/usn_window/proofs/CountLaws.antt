@@ -1,5 +1,6 @@
 -- What a source owes by its own count is what the window wants: so the bytes of a delivery come where the window stores them, and every
 -- law about lists of calls that carry the journal holds of deliveries. Assumes nothing.
+use Rattle.std.specs.Prelude.{Ok, Err}
 use Prim.Native.Nat.{ℕ, zero, suc, ◌+◌, ◌-◌, ◌≤◌, ◌<◌}
 use mathlib.Core.Path.{◌≡◌, refl, sym, ◌∙◌}
 use mathlib.Core.List.{List, [], ◌∷◌}
@@ -19,8 +20,9 @@ use Rattle.usn_window.specs.Calls.{next_of, give_refusal, give_of}
 use Rattle.usn_window.specs.Run.{Call, next, give, next_other, give_other, State, reading_of, state_after, reached, fresh_over}
 use Rattle.usn_window.specs.Owed.{Owed, nothing, asked_by, owed_asked, owed_less, owed_given, owed_after, owed_reached, Along, Accepted, Delivers, Delivery, Lasts, Lasting}
 use Rattle.usn_window.specs.declared.UsnJournalReader.{UsnJournalReader}
-use Rattle.usn_window.specs.declared.Answer.{Answer}
-use Rattle.usn_window.specs.declared.Answer.TheVariants.{Record, Wants, End, Refused}
+use Rattle.base.specs.declared.refusal.Refusal.{Refusal}
+use Rattle.usn_window.specs.Answers.{Answered, refused_by}
+use Rattle.usn_window.specs.declared.Answer.TheVariants.{Record, Wants, End}
 use Rattle.usn_window.specs.declared.Reading.{Reading}
 use Rattle.usn_window.specs.declared.turn.Turn.{Turn}
 use Rattle.usn_window.specs.declared.turn.Turn.TheVariants.{Done, Again}
@@ -34,11 +36,11 @@ abbrev pub missing : UsnJournalReader → ℕ
 missing w = w.end - w.start - w.held
 
 -- an answer a that left the window v, after a window with k bytes missing: it asks for what is missing then, which is a whole refill
-abbrev pub Asks : ℕ → Answer → UsnJournalReader → Type 0
-Asks k (Record o n r) v = (v.ended ≡ false) × (missing v ≡ k)
-Asks k (Wants f n) v = (v.ended ≡ false) × (f ≡ v.start + v.held) × (n ≡ missing v) × (v.held ≡ 0)
-Asks k End v = v.ended ≡ true
-Asks k (Refused m) v = ⊥
+abbrev pub Asks : ℕ → Answered → UsnJournalReader → Type 0
+Asks k (Ok (Record o n r)) v = (v.ended ≡ false) × (missing v ≡ k)
+Asks k (Ok (Wants f n)) v = (v.ended ≡ false) × (f ≡ v.start + v.held) × (n ≡ missing v) × (v.held ≡ 0)
+Asks k (Ok End) v = v.ended ≡ true
+Asks k (Err m) v = ⊥
 
 abbrev AsksTurn : ℕ → Turn → Type 0
 AsksTurn k (Done x) = Asks k x.answer x.reader
@@ -93,30 +95,30 @@ over-counts o w e l = absurd (true≢false (sym e ∙ l))
 none_right : (o : Owed) (w : UsnJournalReader) → o.bytes ≡ 0 → missing w ≡ 0 → Right o w
 none_right o w e m = record { bytes = e ∙ sym m; from = λ h. absurd (h e) }
 
-pub asked-right : (a : Answer) (v : UsnJournalReader) → Asks 0 a v → Counts (asked_by a) v
-asked-right (Record o n r) v c l = none_right nothing v refl c.1
-asked-right (Wants f n) v c l = record { bytes = c.2; from = λ _. c.1 }
-asked-right End v c l = over-counts nothing v c l
-asked-right (Refused m) v c l = absurd c
+pub asked-right : (a : Answered) (v : UsnJournalReader) → Asks 0 a v → Counts (asked_by a) v
+asked-right (Ok (Record o n r)) v c l = none_right nothing v refl c.1
+asked-right (Ok (Wants f n)) v c l = record { bytes = c.2; from = λ _. c.1 }
+asked-right (Ok End) v c l = over-counts nothing v c l
+asked-right (Err m) v c l = absurd c
 
 module _ (o : Owed) (w : UsnJournalReader) (c : Counts o w) where
   -- an answer with which the window stays as it is, and that asks for what is missing or for nothing
-  none-asked : Counts (owed_asked (Refused 0) o) w
-  none-asked l = cond_cases (λ (p : Owed). Right p w) (eqb o.bytes 0) (λ e. none_right nothing w refl (sym (c l).bytes ∙ eqb-true _ _ e)) (λ _. c l)
+  none-asked : (r : Refusal) → Counts (owed_asked (Err r) o) w
+  none-asked r l = cond_cases (λ (p : Owed). Right p w) (eqb o.bytes 0) (λ e. none_right nothing w refl (sym (c l).bytes ∙ eqb-true _ _ e)) (λ _. c l)
 
   pub next-counts : (r : Reads) (n : ℕ) → Counts (owed_asked (next_of r n w).answer o) (next_of r n w).reader
   unfolding next_of
   next-counts r n =
       let P : Reading → Type 0 = λ x. Counts (owed_asked x.answer o) x.reader in
       cond_cases P (eqb (window_refusal w n) 0)
-      (λ _. cond_cases P w.ended (λ e. over-counts (owed_asked End o) w e) λ e.
+      (λ _. cond_cases P w.ended (λ e. over-counts (owed_asked (Ok End) o) w e) λ e.
       let m : missing w ≡ wanted_of w = wants-rest w e in
       let b : o.bytes ≡ missing w = (c e).bytes in
       cond_cases P (eqb (wanted_of w) 0)
       (λ z. let k : missing w ≡ 0 = m ∙ eqb-true _ _ z in
       rw (eq-eqb o.bytes 0 (b ∙ k)) (asked-right (searched r w).answer (searched r w).reader (rw k at (search-asks r w e))))
       (λ z. rw (ne_eqb o.bytes 0 (λ h. eqb-false _ _ z (sym m ∙ sym b ∙ h))) c))
-      (λ _. none-asked)
+      (λ _. none-asked (refused_by (window_refusal w n)))
 
   abbrev Left : ℕ → Reading → Type 0
   Left k x = Counts (owed_given k x.answer o) x.reader

@@ -1,5 +1,6 @@
 -- Any list of calls that delivers a journal comes to the end once enough of its calls go on, whatever other calls stand between them; and before the end
 -- no asking is refused, and no giving of bytes that are owed. Assumes nothing.
+use Rattle.std.specs.Prelude.{Ok, Err}
 use Prim.Native.Nat.{ℕ, ◌+◌, ◌-◌, ◌≤◌, ◌<◌}
 use mathlib.Core.Path.{◌≡◌, refl, sym, ◌∙◌}
 use mathlib.Core.List.{List, [], ◌∷◌}
@@ -18,8 +19,8 @@ use Rattle.usn_window.specs.Run.{Call, next, give, next_other, give_other, State
 use Rattle.usn_window.specs.Owed.{Owed, nothing, owed_after, owed_reached, Along, Accepted, Delivers, Delivery, count_if, step_given, goings}
 use Rattle.usn_window.specs.Delivery.{calls_for}
 use Rattle.usn_window.specs.declared.UsnJournalReader.{UsnJournalReader}
-use Rattle.usn_window.specs.declared.Answer.{Answer}
-use Rattle.usn_window.specs.declared.Answer.TheVariants.{Record, Wants, End, Refused}
+use Rattle.usn_window.specs.Answers.{Answered}
+use Rattle.usn_window.specs.declared.Answer.TheVariants.{Record, Wants, End}
 use Rattle.usn_window.specs.declared.Reading.{Reading}
 use Rattle.usn_window.proofs.WindowLaws.{Sound, wants-rest}
 use Rattle.usn_window.proofs.CallLaws.{next-searches, next-asks}
@@ -34,11 +35,11 @@ sum-most : (a b c d : ℕ) → a + b ≤ c → d ≤ b → a + d ≤ c
 sum-most a b c d h k = omega arith
 
 -- a window whose numbers are not refused refuses no asking, and no giving of as many bytes as are missing
-asks-accepted : (k : ℕ) (a : Answer) (v : UsnJournalReader) → Asks k a v → Accepted a
-asks-accepted k (Record o n r) v q = tt
-asks-accepted k (Wants f n) v q = tt
-asks-accepted k End v q = tt
-asks-accepted k (Refused m) v q = q
+asks-accepted : (k : ℕ) (a : Answered) (v : UsnJournalReader) → Asks k a v → Accepted a
+asks-accepted k (Ok (Record o n r)) v q = tt
+asks-accepted k (Ok (Wants f n)) v q = tt
+asks-accepted k (Ok End) v q = tt
+asks-accepted k (Err m) v q = q
 
 next-accepted : (r : Reads) (n : ℕ) (w : UsnJournalReader) → window_refusal w n ≡ 0 → Accepted (next_of r n w).answer
 unfolding next_of
@@ -60,19 +61,19 @@ module _ (s : List ℕ) where
     live : v.ended ≡ false
     less : g + to_go s v ≤ m
 
-  abbrev Goes : ℕ → ℕ → Answer → UsnJournalReader → Type 0
-  Goes g m a v = (a ≡ End → ⊥) → On g m v
+  abbrev Goes : ℕ → ℕ → Answered → UsnJournalReader → Type 0
+  Goes g m a v = (a ≡ (Ok End) → ⊥) → On g m v
 
   module _ (w : UsnJournalReader) (sd : Sound w window_size) (ov : Over s w) (live : w.ended ≡ false) where
     stay : On 0 (to_go s w) w
     stay = record { sound = sd; over = ov; live = live; less = omega arith }
 
     -- what a search leaves
-    searched-on : (a : Answer) (v : UsnJournalReader) → Asks 0 a v → Less s (to_go s w) a v → Over s v → Goes 1 (to_go s w) a v
-    searched-on (Record o n r) v q l u h = record { sound = l.0; over = u; live = q.0; less = omega (arith, l.1) }
-    searched-on (Wants f n) v q l u h = record { sound = l.0; over = u; live = q.0; less = omega (arith, l.1) }
-    searched-on End v q l u h = absurd (h refl)
-    searched-on (Refused m) v q l u h = absurd q
+    searched-on : (a : Answered) (v : UsnJournalReader) → Asks 0 a v → Less s (to_go s w) a v → Over s v → Goes 1 (to_go s w) a v
+    searched-on (Ok (Record o n r)) v q l u h = record { sound = l.0; over = u; live = q.0; less = omega (arith, l.1) }
+    searched-on (Ok (Wants f n)) v q l u h = record { sound = l.0; over = u; live = q.0; less = omega (arith, l.1) }
+    searched-on (Ok End) v q l u h = absurd (h refl)
+    searched-on (Err m) v q l u h = absurd q
 
     next-on : (o : Owed) → o.bytes ≡ missing w
         → Goes (cond (eqb o.bytes 0) 1 0) (to_go s w) (next_of (journal_reads s) window_size w).answer (next_of (journal_reads s) window_size w).reader
@@ -81,15 +82,15 @@ module _ (s : List ℕ) where
         r : Reads
         r = journal_reads s
 
-        none : 0 ≡ window_refusal w window_size
-        none = sym (sound-accepted w window_size sd)
+        none : window_refusal w window_size ≡ 0
+        none = sound-accepted w window_size sd
 
         by : (t : Bool) → eqb o.bytes 0 ≡ t → Goes (cond t 1 0) (to_go s w) (next_of (journal_reads s) window_size w).answer (next_of (journal_reads s) window_size w).reader
         by true z =
             let k : missing w ≡ 0 = sym e ∙ eqb-true _ _ z in
-            rw (← (next-searches w window_size none r refl live (wants-rest w live) k refl))
+            rw (← (next-searches w window_size r none live (wants-rest w live) k refl))
             (searched-on (searched r w).answer (searched r w).reader (rw k at (search-asks r w live)) (search-less s w sd ov.total k) (search-comes s w ov live).over)
-        by false z = rw (← (next-asks w window_size none r refl live (wants-rest w live) (λ y. eqb-false _ _ z (e ∙ y)) refl)) (λ _. stay)
+        by false z = rw (← (next-asks w window_size r none live (wants-rest w live) (λ y. eqb-false _ _ z (e ∙ y)) refl)) (λ _. stay)
 
     give-on : (k : ℕ) → Goes (cond (eqb k 0) 0 (count_if (give_of window_size k w).answer)) (to_go s w) (give_of window_size k w).answer (give_of window_size k w).reader
     unfolding give_of
@@ -142,7 +143,7 @@ module _ (s : List ℕ) where
   call-on (next_other b) o st h d = rw (call-journal s (next_other b) st h.filled d).0 (other-next-on st.window h.sound h.over h.live (length b) d)
   call-on (give_other b x) o st h d = rw (call-journal s (give_other b x) st h.filled d).0 (other-give-on st.window h.sound h.over h.live (length b) (length x) d)
 
-  call-held : (c : Call) (o : Owed) (st : State) → Held s o st → Delivers s c o st → ((reading_of c st).answer ≡ End → ⊥)
+  call-held : (c : Call) (o : Owed) (st : State) → Held s o st → Delivers s c o st → ((reading_of c st).answer ≡ (Ok End) → ⊥)
       → Held s (owed_after c (reading_of c st).answer o) (state_after c st) × (step_given c (reading_of c st).answer o + to_go s (reading_of c st).reader ≤ to_go s st.window)
   call-held c o st h d n =
       let g = call-on c o st h d n in
@@ -150,7 +151,7 @@ module _ (s : List ℕ) where
       (record { filled = f.1; over = g.over; sound = g.sound; live = g.live; right = call-counts c o st (λ _. h.right) g.live }, g.less)
 
   abbrev Before : List Reading → Type 0
-  Before xs = All (λ (x : Reading). x.answer ≡ End → ⊥) xs
+  Before xs = All (λ (x : Reading). x.answer ≡ (Ok End) → ⊥) xs
 
   run-held : (cs : List Call) (o : Owed) (st : State) → Held s o st → Along (Delivers s) cs o st → Before (readings cs st)
       → Held s (owed_reached cs o st) (reached cs st) × (goings cs o st ≤ to_go s st.window)

@@ -1,6 +1,7 @@
 -- Every delivery of a journal, in pieces of any sizes, comes to the end within 4 calls for each byte and 17 more, askings in between not counted, with
 -- no call refused, and gives exactly the journal's records, with their fields and the bytes of their names. By induction over the pieces: with
 -- each that goes on a number falls (`ProgressLaws`), and what is owed is what the window misses (`CountLaws`). Assumes nothing.
+use Rattle.std.specs.Prelude.{Ok, Err}
 use Prim.Native.Nat.{ℕ, suc, ◌+◌, ◌-◌, ◌≤◌, ◌<◌, min}
 use mathlib.Core.Path.{◌≡◌, refl, sym, ap, ◌∙◌}
 use mathlib.Core.List.{List, [], ◌∷◌, ◌++◌}
@@ -25,8 +26,8 @@ use Rattle.usn_window.specs.Run.{Call, next, give, State, reading_of, buffer_of,
 use Rattle.usn_window.specs.Owed.{Owed, nothing, asked_by, owed_less, owed_after}
 use Rattle.usn_window.specs.Delivery.{call_of, got_of, Result, ended, stopped, misled, result_of, deliver, pieces, own_of, records_at, journal_records, calls_for}
 use Rattle.usn_window.specs.declared.UsnJournalReader.{UsnJournalReader}
-use Rattle.usn_window.specs.declared.Answer.{Answer}
-use Rattle.usn_window.specs.declared.Answer.TheVariants.{Record, Wants, End, Refused}
+use Rattle.usn_window.specs.Answers.{Answered, refused_by}
+use Rattle.usn_window.specs.declared.Answer.TheVariants.{Record, Wants, End}
 use Rattle.usn_window.specs.declared.Reading.{Reading}
 use Rattle.window_numbers.proofs.NumberLaws.{end_of}
 use Rattle.usn_window.proofs.WindowLaws.{Sound, wants-rest}
@@ -113,20 +114,20 @@ module _ (s : List ℕ) where
 
   module _ (ms : List ℕ) (ih : (o : Owed) (st : State) → Held o st → to_go s st.window < pieces ms → deliver s ms o st ≡ ended (records_at s (coming s st.window))) where
     -- an answer to next, and what the source does then
-    answered-next : (k : ℕ) → k ≤ pieces ms → (l : List Place) (b : List ℕ) (a : Answer) (v : UsnJournalReader) → Asks 0 a v → Less s k a v → l ≡ place_of a ++ coming s v → Over s v
-        → GivesRecord s a v → (a ≡ End → l ≡ []) → Filled s b v
+    answered-next : (k : ℕ) → k ≤ pieces ms → (l : List Place) (b : List ℕ) (a : Answered) (v : UsnJournalReader) → Asks 0 a v → Less s k a v → l ≡ place_of a ++ coming s v → Over s v
+        → GivesRecord s a v → (a ≡ (Ok End) → l ≡ []) → Filled s b v
         → result_of a (asked_by a) (record { window = v; buffer = b }) (deliver s ms (asked_by a) (record { window = v; buffer = b })) ≡ ended (records_at s l)
-    answered-next k h l b (Record o n r) v q g w ov t e f =
+    answered-next k h l b (Ok (Record o n r)) v q g w ov t e f =
         let g' = got-own s b v f o n r g.0 q.1 g.2 g.3 t in
-        let i = ih nothing (record { window = v; buffer = b }) (record { filled = f; over = ov; sound = g.0; live = q.0; right = asked-right (Record o n r) v q q.0 }) (omega arith) in
+        let i = ih nothing (record { window = v; buffer = b }) (record { filled = f; over = ov; sound = g.0; live = q.0; right = asked-right (Ok (Record o n r)) v q q.0 }) (omega arith) in
         rw (w, i, ← g')
-    answered-next k h l b (Wants from bytes) v q g w ov t e f =
-        wants-right from bytes (asked_by (Wants from bytes)) _ _ refl refl
+    answered-next k h l b (Ok (Wants from bytes)) v q g w ov t e f =
+        wants-right from bytes (asked_by (Ok (Wants from bytes))) _ _ refl refl
         (rw w
-        (ih (asked_by (Wants from bytes)) (record { window = v; buffer = b }) (record { filled = f; over = ov; sound = g.0; live = q.0; right = asked-right (Wants from bytes) v q q.0 })
+        (ih (asked_by (Ok (Wants from bytes))) (record { window = v; buffer = b }) (record { filled = f; over = ov; sound = g.0; live = q.0; right = asked-right (Ok (Wants from bytes)) v q q.0 })
         (omega arith)))
-    answered-next k h l b End v q g w ov t e f = rw (e refl)
-    answered-next k h l b (Refused n) v q g w ov t e f = absurd q
+    answered-next k h l b (Ok End) v q g w ov t e f = rw (e refl)
+    answered-next k h l b (Err n) v q g w ov t e f = absurd q
 
     module _ (m : ℕ) (o : Owed) (st : State) (h : Held o st) (most : to_go s st.window < suc (pieces ms)) where
       abbrev w : UsnJournalReader
@@ -137,7 +138,7 @@ module _ (s : List ℕ) where
       unfolding journal_reading
       asked z =
           (call-journal s next st h.filled tt).0
-          ∙ sym (next-searches w window_size (sym (sound-accepted w window_size h.sound)) (journal_reads s) refl h.live (wants-rest w h.live) z refl)
+          ∙ sym (next-searches w window_size (journal_reads s) (sound-accepted w window_size h.sound) h.live (wants-rest w h.live) z refl)
 
       next-step : o.bytes ≡ 0 → deliver s (m ∷ ms) o st ≡ ended (records_at s (coming s w))
       unfolding buffer_of
@@ -158,7 +159,7 @@ module _ (s : List ℕ) where
       ask-step z e l =
           let r : reading_of next st ≡ asking w =
           (call-journal s next st h.filled tt).0
-          ∙ sym (next-asks w window_size (sym (sound-accepted w window_size h.sound)) (journal_reads s) refl h.live (wants-rest w h.live) (λ y. z (h.right.bytes ∙ y)) refl) in
+          ∙ sym (next-asks w window_size (journal_reads s) (sound-accepted w window_size h.sound) h.live (wants-rest w h.live) (λ y. z (h.right.bytes ∙ y)) refl) in
           step m ms o st next (rw (ne_eqb o.bytes 0 z, e)) (ended (records_at s (coming s w)))
           (rw (r, ne_eqb o.bytes 0 z)
           (wants-right (w.start + w.held) (wanted_of w) o _ _ (sym (h.right.from z)) (sym (wants-rest w h.live) ∙ sym h.right.bytes) (ih o st h l)))
@@ -190,7 +191,7 @@ module _ (s : List ℕ) where
         unfolding reading_of
         gave =
             let e : window_refusal w (length st.buffer) ≡ 0 = rw h.filled.size (sound-accepted w window_size h.sound) in
-            sym (give-bytes st.buffer x w refl e (wants-rest w h.live) (rw long most-k) (λ u. not_none (sym long ∙ u)) refl refl refl).answer
+            sym (give-bytes st.buffer x w e (wants-rest w h.live) (rw long most-k) (λ u. not_none (sym long ∙ u)) refl refl refl).answer
             ∙ rw long
 
         first : w.start + (w.held + k) ≡ o.from + k
@@ -247,5 +248,5 @@ module _ (s : List ℕ) where
 
 -- a journal above the domain is refused at the first call
 pub delivered-above : (s b : List ℕ) (m : ℕ) (ms : List ℕ) → stream_domain < length s → deliver s (m ∷ ms) nothing (fresh_over s b) ≡ stopped above_domain
-unfolding reading_of next_of numbers_refusal deliver
+unfolding reading_of next_of numbers_refusal refused_by deliver
 delivered-above s b m ms h = simp (lt-ltb _ _ h)

@@ -1,4 +1,5 @@
 -- A window that has all its bytes goes on: no call of it is refused, and a number falls with each answer before the end. Assumes nothing.
+use Rattle.std.specs.Prelude.{Ok, Err}
 use Prim.Native.Nat.{ℕ, zero, suc, ◌+◌, ◌-◌, ◌*◌, ◌%◌, ◌≤◌, ◌<◌}
 use mathlib.Core.Path.{◌≡◌, refl, sym, ap, ◌∙◌}
 use mathlib.Core.List.{List}
@@ -17,8 +18,8 @@ use Rattle.window_numbers.specs.Numbers.{window_size, window_end}
 use Rattle.usn_window.specs.Window.{numbers_in, window_refusal, refilled, skipped, moved_by, fed_by}
 use Rattle.usn_window.specs.Rule.{journal_reads, or_end, given, turn_by_length, turn_of, onward, searched}
 use Rattle.usn_window.specs.declared.UsnJournalReader.{UsnJournalReader}
-use Rattle.usn_window.specs.declared.Answer.{Answer}
-use Rattle.usn_window.specs.declared.Answer.TheVariants.{Record, Wants, End, Refused}
+use Rattle.usn_window.specs.Answers.{Answered}
+use Rattle.usn_window.specs.declared.Answer.TheVariants.{Record, Wants, End}
 use Rattle.usn_window.specs.declared.Reading.{Reading}
 use Rattle.usn_window.specs.declared.turn.Turn.{Turn}
 use Rattle.usn_window.specs.declared.turn.Turn.TheVariants.{Done, Again}
@@ -141,11 +142,11 @@ module _ (s : List ℕ) where
   to_go w = missing w + 2 * (length s - w.end) + again w.position w.end + (length s + 8 - w.position)
 
   -- an answer that left the window v, where m calls were to go
-  abbrev pub Less : ℕ → Answer → UsnJournalReader → Type 0
-  Less m (Record o n r) v = Sound v window_size × (to_go v < m) × (v.start ≤ o) × (o + n ≤ v.end)
-  Less m (Wants f n) v = Sound v window_size × (to_go v < m)
-  Less m End v = Unit {0}
-  Less m (Refused n) v = Unit {0}
+  abbrev pub Less : ℕ → Answered → UsnJournalReader → Type 0
+  Less m (Ok (Record o n r)) v = Sound v window_size × (to_go v < m) × (v.start ≤ o) × (o + n ≤ v.end)
+  Less m (Ok (Wants f n)) v = Sound v window_size × (to_go v < m)
+  Less m (Ok End) v = Unit {0}
+  Less m (Err n) v = Unit {0}
 
   abbrev LessTurn : ℕ → Turn → Type 0
   LessTurn m (Done x) = Less m x.answer x.reader
@@ -237,11 +238,11 @@ module _ (s : List ℕ) where
     turn-less : LessTurn (to_go w) (turn_of (journal_reads s) w)
     turn-less = both-turn refl
 
-  less-from : (a : Answer) (v : UsnJournalReader) (k m : ℕ) → k ≤ m → Less k a v → Less m a v
-  less-from (Record o n r) v k m h l = (l.0, omega arith, l.2, l.3)
-  less-from (Wants f n) v k m h l = (l.0, omega arith)
-  less-from End v k m h l = tt
-  less-from (Refused n) v k m h l = tt
+  less-from : (a : Answered) (v : UsnJournalReader) (k m : ℕ) → k ≤ m → Less k a v → Less m a v
+  less-from (Ok (Record o n r)) v k m h l = (l.0, omega arith, l.2, l.3)
+  less-from (Ok (Wants f n)) v k m h l = (l.0, omega arith)
+  less-from (Ok End) v k m h l = tt
+  less-from (Err n) v k m h l = tt
 
   onward-less : (m : ℕ) (w : UsnJournalReader) (t : Turn) (f : UsnJournalReader → Reading) → TurnShape w t → LessTurn m t
       → ((v : UsnJournalReader) → Moved w v → Sound v window_size → Less (to_go v) (f v).answer (f v).reader)

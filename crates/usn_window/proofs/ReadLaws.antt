@@ -1,5 +1,6 @@
 -- What a search reads of the journal: 8 bytes at each position that it comes to, and the fixed part of the record that it gives.
 -- Assumes nothing.
+use Rattle.std.specs.Prelude.{Ok, Err}
 use Prim.Native.Nat.{ℕ, zero, suc, ◌+◌, ◌-◌, ◌≤◌, ◌<◌}
 use mathlib.Core.Path.{◌≡◌, refl, sym, ap, ◌∙◌}
 use mathlib.Core.List.{List}
@@ -22,8 +23,8 @@ use Rattle.usn_window.specs.Window.{window_refusal, wanted_of, refilled, skipped
 use Rattle.usn_window.specs.Rule.{journal_reads, or_end, given, turn_by_length, turn_of, onward, searched}
 use Rattle.usn_window.specs.Calls.{next_of, give_refusal, give_of}
 use Rattle.usn_window.specs.declared.UsnJournalReader.{UsnJournalReader}
-use Rattle.usn_window.specs.declared.Answer.{Answer}
-use Rattle.usn_window.specs.declared.Answer.TheVariants.{Record, Wants, End, Refused}
+use Rattle.usn_window.specs.Answers.{Answered}
+use Rattle.usn_window.specs.declared.Answer.TheVariants.{Record, Wants, End}
 use Rattle.usn_window.specs.declared.Reading.{Reading}
 use Rattle.usn_window.specs.declared.turn.Turn.{Turn}
 use Rattle.usn_window.specs.declared.turn.Turn.TheVariants.{Done, Again}
@@ -31,36 +32,36 @@ use Rattle.usn_window.proofs.SearchLaws.{Moved, TurnShape, turn-shape, closer, s
 
 module _ (s : List ℕ) where
   -- an answer of a window that was at p: it went no way back, and a record lies between, with room for its fixed part
-  abbrev pub Good : ℕ → Answer → ℕ → Type 0
-  Good p (Record o n r) q = (p ≤ o) × (o + n ≤ q) × (n ≡ le_at 4 s o) × (fixed_of (le_at 2 s (o + 4)) ≤ n)
-  Good p (Wants f k) q = p ≤ q
-  Good p End q = p ≤ q
-  Good p (Refused m) q = p ≤ q
+  abbrev pub Good : ℕ → Answered → ℕ → Type 0
+  Good p (Ok (Record o n r)) q = (p ≤ o) × (o + n ≤ q) × (n ≡ le_at 4 s o) × (fixed_of (le_at 2 s (o + 4)) ≤ n)
+  Good p (Ok (Wants f k)) q = p ≤ q
+  Good p (Ok End) q = p ≤ q
+  Good p (Err m) q = p ≤ q
 
-  pub good-up : (a : Answer) (p q : ℕ) → Good p a q → p ≤ q
-  good-up (Record o n r) p q g = omega arith
-  good-up (Wants f k) p q g = g
-  good-up End p q g = g
-  good-up (Refused m) p q g = g
+  pub good-up : (a : Answered) (p q : ℕ) → Good p a q → p ≤ q
+  good-up (Ok (Record o n r)) p q g = omega arith
+  good-up (Ok (Wants f k)) p q g = g
+  good-up (Ok End) p q g = g
+  good-up (Err m) p q g = g
 
-  good-from : (a : Answer) (p p' q : ℕ) → p ≤ p' → Good p' a q → Good p a q
-  good-from (Record o n r) p p' q h g = (omega arith, g.1, g.2, g.3)
-  good-from (Wants f k) p p' q h g = omega arith
-  good-from End p p' q h g = omega arith
-  good-from (Refused m) p p' q h g = omega arith
+  good-from : (a : Answered) (p p' q : ℕ) → p ≤ p' → Good p' a q → Good p a q
+  good-from (Ok (Record o n r)) p p' q h g = (omega arith, g.1, g.2, g.3)
+  good-from (Ok (Wants f k)) p p' q h g = omega arith
+  good-from (Ok End) p p' q h g = omega arith
+  good-from (Err m) p p' q h g = omega arith
 
   -- up to where an answer may have read, where the window is then at q
-  abbrev pub reach : Answer → ℕ → ℕ
-  reach (Record o n r) q = o + fixed_of (le_at 2 s (o + 4))
-  reach (Wants f k) q = q + 8
-  reach End q = q + 8
-  reach (Refused m) q = q + 8
+  abbrev pub reach : Answered → ℕ → ℕ
+  reach (Ok (Record o n r)) q = o + fixed_of (le_at 2 s (o + 4))
+  reach (Ok (Wants f k)) q = q + 8
+  reach (Ok End) q = q + 8
+  reach (Err m) q = q + 8
 
-  pub reach-least : (a : Answer) (p q : ℕ) → Good p a q → p + 8 ≤ reach a q
-  reach-least (Record o n r) p q g = omega (arith, fixed-low (le_at 2 s (o + 4)))
-  reach-least (Wants f k) p q g = omega arith
-  reach-least End p q g = omega arith
-  reach-least (Refused m) p q g = omega arith
+  pub reach-least : (a : Answered) (p q : ℕ) → Good p a q → p + 8 ≤ reach a q
+  reach-least (Ok (Record o n r)) p q g = omega (arith, fixed-low (le_at 2 s (o + 4)))
+  reach-least (Ok (Wants f k)) p q g = omega arith
+  reach-least (Ok End) p q g = omega arith
+  reach-least (Err m) p q g = omega arith
 
   abbrev GoodTurn : ℕ → Turn → Type 0
   GoodTurn p (Done x) = Good p x.answer x.reader.position

@@ -1,6 +1,7 @@
 -- By any list of calls that delivers a journal the window gives the journal's records: what it gave, followed by what is still to come from
 -- the window that it reached, is the window's list of the journal; and after an end nothing is to come, unless an empty giving ended the
 -- reading. That the end is reached is shown in `Progress` and `Forward`. Assumes nothing.
+use Rattle.std.specs.Prelude.{Ok, Err}
 use Prim.Native.Nat.{ℕ}
 use mathlib.Core.Path.{◌≡◌, refl, sym, ap, ◌∙◌}
 use mathlib.Core.List.{List, [], ◌∷◌, ◌++◌, append_assoc, append-nil}
@@ -21,8 +22,9 @@ use Rattle.usn_window.specs.Journal.{window_list}
 use Rattle.usn_window.specs.Run.{Call, next, give, next_other, give_other, State, shape_of, reading_of, state_after, readings, reached, place_of, given_by, coming, GivesRecord, fresh_over}
 use Rattle.usn_window.specs.Owed.{Delivery, Lasting}
 use Rattle.usn_window.specs.declared.UsnJournalReader.{UsnJournalReader}
-use Rattle.usn_window.specs.declared.Answer.{Answer}
-use Rattle.usn_window.specs.declared.Answer.TheVariants.{Wants, End, Refused}
+use Rattle.base.specs.declared.refusal.Refusal.{Refusal}
+use Rattle.usn_window.specs.Answers.{Answered}
+use Rattle.usn_window.specs.declared.Answer.TheVariants.{Wants, End}
 use Rattle.usn_window.specs.declared.Reading.{Reading}
 use Rattle.usn_window.proofs.BufferLaws.{Filled}
 use Rattle.usn_window.proofs.RunLaws.{Carries, AllCarry, Goes, AllGo, other, journal_reading, call-journal}
@@ -41,20 +43,20 @@ pub record Goes_on (s : List ℕ) (w : UsnJournalReader) (x : Reading) : Type 0 
 
 -- what holds after it where no empty giving ends the reading
 abbrev Stays-quiet : List ℕ → Reading → Type 0
-Stays-quiet s x = (x.answer ≡ End → coming s x.reader ≡ []) × Quiet s x.reader
+Stays-quiet s x = (x.answer ≡ (Ok End) → coming s x.reader ≡ []) × Quiet s x.reader
 
 module _ (s : List ℕ) (w : UsnJournalReader) (ov : Over s w) where
   -- the window comes back as it is, with no record
-  same : (a : Answer) → place_of a ≡ [] → GivesRecord s a w → Goes_on s w (reading a w)
+  same : (a : Answered) → place_of a ≡ [] → GivesRecord s a w → Goes_on s w (reading a w)
   same a e t = record { whole = rw e; over = ov; tells = t }
 
-  not_end : {a : Answer} → (a ≡ End → ⊥) → Quiet s w → Stays-quiet s (reading a w)
+  not_end : {a : Answered} → (a ≡ (Ok End) → ⊥) → Quiet s w → Stays-quiet s (reading a w)
   not_end h q = (λ e. absurd (h e), q)
 
-  wants-end : {f k : ℕ} → Wants f k ≡ End → ⊥
+  wants-end : {f k : ℕ} → ◌≡◌ {A = Answered} (Ok (Wants f k)) (Ok End) → ⊥
   wants-end e = let z : ◌≡◌ {A = ℕ} 0 1 = cc in omega arith
 
-  refused_end : {n : ℕ} → Refused n ≡ End → ⊥
+  refused_end : {r : Refusal} → ◌≡◌ {A = Answered} (Err r) (Ok End) → ⊥
   refused_end e = let z : ◌≡◌ {A = ℕ} 0 1 = cc in omega arith
 
   search-goes : w.ended ≡ false → Goes_on s w (searched (journal_reads s) w) × (Quiet s w → Stays-quiet s (searched (journal_reads s) w))
@@ -62,8 +64,8 @@ module _ (s : List ℕ) (w : UsnJournalReader) (ov : Over s w) where
       let c = search-comes s w ov live in
       (record { whole = c.whole; over = c.over; tells = c.tells }, λ q. (ended c, c.quiet))
     where
-      ended : Comes s (coming s w) (searched (journal_reads s) w) → (searched (journal_reads s) w).answer ≡ End → coming s (searched (journal_reads s) w).reader ≡ []
-      ended c e = sym (c.whole ∙ ap (λ (a : Answer). place_of a ++ coming s (searched (journal_reads s) w).reader) e) ∙ c.ends e
+      ended : Comes s (coming s w) (searched (journal_reads s) w) → (searched (journal_reads s) w).answer ≡ (Ok End) → coming s (searched (journal_reads s) w).reader ≡ []
+      ended c e = sym (c.whole ∙ ap (λ (a : Answered). place_of a ++ coming s (searched (journal_reads s) w).reader) e) ∙ c.ends e
 
   abbrev Fine : Reading → Type 0
   Fine x = Goes_on s w x × (Quiet s w → Stays-quiet s x)
@@ -72,7 +74,7 @@ module _ (s : List ℕ) (w : UsnJournalReader) (ov : Over s w) where
   unfolding next_of
   next-goes n =
       cond_cases Fine (eqb (window_refusal w n) 0)
-      (λ _. cond_cases Fine w.ended (λ e. (same End refl tt, λ q. (λ _. q e, q))) λ e.
+      (λ _. cond_cases Fine w.ended (λ e. (same (Ok End) refl tt, λ q. (λ _. q e, q))) λ e.
       cond_cases Fine (eqb (wanted_of w) 0) (λ _. search-goes e) (λ _. (same _ refl tt, not_end wants-end)))
       (λ _. (same _ refl tt, not_end refused_end))
 
@@ -147,7 +149,7 @@ module _ (s : List ℕ) where
 
   -- and nothing is to come after an end, unless an empty giving ended the reading
   run_ends : (cs : List Call) (st : State) → BufferHolds st → AllCarry s cs st → AllGo cs st → Quiet s st.window
-      → All (λ x. x.answer ≡ End → coming s x.reader ≡ []) (readings cs st)
+      → All (λ x. x.answer ≡ (Ok End) → coming s x.reader ≡ []) (readings cs st)
   run_ends [] st h k o q = tt
   run_ends (c ∷ cs) st h k o q =
       let g = call-goes c st h k.0 in
@@ -166,7 +168,7 @@ module _ (s : List ℕ) where
   short-reads b e cs k = run-goes cs (fresh_over s b) (fresh_holds b e) (delivery-carries s b cs k)
 
   pub no-early-end : (b : List ℕ) → length b ≡ window_size → (cs : List Call) → Delivery s b cs → Lasting s b cs
-      → All (λ x. x.answer ≡ End → coming s x.reader ≡ []) (readings cs (fresh_over s b))
+      → All (λ x. x.answer ≡ (Ok End) → coming s x.reader ≡ []) (readings cs (fresh_over s b))
   no-early-end b e cs k o = run_ends cs (fresh_over s b) (fresh_holds b e) (delivery-carries s b cs k) (lasting-goes s b cs o) (λ f. absurd (true≢false (sym f)))
 
   -- the state that a list of calls reaches holds the journal as well, and is quiet
@@ -183,7 +185,7 @@ module _ (s : List ℕ) where
 
   -- so whoever goes on until the end, and never gives nothing while bytes are wanted, has all records, however the bytes were cut
   pub all-given : (b : List ℕ) → length b ≡ window_size → (cs : List Call) (c : Call) → Delivery s b (cs ++ (c ∷ [])) → Lasting s b (cs ++ (c ∷ []))
-      → (reading_of c (reached cs (fresh_over s b))).answer ≡ End → given_by (readings (cs ++ (c ∷ [])) (fresh_over s b)) ≡ window_list s
+      → (reading_of c (reached cs (fresh_over s b))).answer ≡ (Ok End) → given_by (readings (cs ++ (c ∷ [])) (fresh_over s b)) ≡ window_list s
   all-given b e cs c k o a =
       let st = fresh_over s b in
       let r = run-reaches cs (c ∷ []) st (fresh_holds b e) (delivery-carries s b (cs ++ (c ∷ [])) k) (lasting-goes s b (cs ++ (c ∷ [])) o) (λ f. absurd (true≢false (sym f))) in

@@ -1,4 +1,5 @@
 -- The ways out of a turn, and the turns after one another. Assumes nothing.
+use Rattle.std.specs.Prelude.{Result, Ok, Err}
 use Prim.Native.Nat.{ℕ, ◌+◌, ◌-◌, ◌≤◌, ◌<◌}
 use mathlib.Core.Path.{◌≡◌, sym, ap, ◌∙◌}
 use mathlib.Core.List.{List}
@@ -7,10 +8,10 @@ use borrow.Author.Tests.{lt-ltb, le-ltb}
 use Rattle.base.specs.Places.{place_from}
 use Rattle.base.specs.declared.Place.{Place}
 use Rattle.usn_record.specs.Bytes.{le_at}
-use Rattle.usn_record.specs.Record.{outcome, listed}
+use Rattle.base.specs.Outcome.{outcome}
+use Rattle.base.specs.declared.refusal.Refusal.{Refusal}
+use Rattle.usn_record.specs.Record.{listed}
 use Rattle.usn_record.specs.declared.UsnRecord.{UsnRecord}
-use Rattle.usn_record.specs.declared.Parsed.{Parsed}
-use Rattle.usn_record.specs.declared.Parsed.TheVariants.{Record as Accepted, Refused as Rejected}
 use Rattle.usn_record.proofs.NameLaws.{listed-name}
 use Rattle.window_numbers.specs.Numbers.{window_size}
 use Rattle.usn_window.specs.Window.{refilled, skipped, advanced}
@@ -76,20 +77,20 @@ module _ (r : Reads) (w : UsnJournalReader) where
           pub turn-past : w.position + n ≤ w.total → {v : UsnJournalReader} {t : Turn} → v ≡ refilled w → t ≡ or_end w v → t ≡ turn_of r w
           turn-past h p f = past (f ∙ rw p (simp (le-ltb _ _ h)))
 
-        module _ (g : w.position + n ≤ w.end) (p : Parsed) (q : outcome p ≡ r.record_at w) where
+        module _ (g : w.position + n ≤ w.end) (p : Result UsnRecord Refusal) (q : outcome p ≡ r.record_at w) where
           inside : {t : Turn} → t ≡ given w n (outcome p) → t ≡ turn_of r w
           unfolding turn_by_length
           inside f = by_length (f ∙ rw q (simp (le-ltb _ _ b, le-ltb _ _ d, le-ltb _ _ g)))
 
-          pub turn-record : {x y : UsnRecord} {v : UsnJournalReader} → p ≡ Accepted x → y ≡ named_from (w.position - w.start) x → v ≡ advanced w n
-              → Done (reading (Record w.position n y) v) ≡ turn_of r w
+          pub turn-record : {x y : UsnRecord} {v : UsnJournalReader} → p ≡ Ok x → y ≡ named_from (w.position - w.start) x → v ≡ advanced w n
+              → Done (reading (Ok (Record w.position n y)) v) ≡ turn_of r w
           turn-record i j k = inside (rw (i, j, k))
 
-          pub turn-rejected : {m : ℕ} {v : UsnJournalReader} → p ≡ Rejected m → v ≡ advanced w n → Again v ≡ turn_of r w
+          pub turn-rejected : {m : Refusal} {v : UsnJournalReader} → p ≡ Err m → v ≡ advanced w n → Again v ≡ turn_of r w
           turn-rejected i k = inside (rw (i, k))
 
 -- the name of a record that was accepted lies in its n bytes
-pub name-near : (s : List ℕ) (o : ℕ) (p : Parsed) {n : ℕ} {x : UsnRecord} → n ≡ le_at 4 s o → outcome p ≡ listed s o → p ≡ Accepted x → x.filename.offset ≤ n
+pub name-near : (s : List ℕ) (o : ℕ) (p : Result UsnRecord Refusal) {n : ℕ} {x : UsnRecord} → n ≡ le_at 4 s o → outcome p ≡ listed s o → p ≡ Ok x → x.filename.offset ≤ n
 name-near s o p e q i = let h = listed-name s o (sym (ap outcome i) ∙ q) in omega arith
 
 -- a refill followed by a skip keeps what is asked for

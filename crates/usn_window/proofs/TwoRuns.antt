@@ -1,5 +1,6 @@
 -- Two runs of one list of calls, over journals that differ in the names of given records alone, past their fixed parts: every answer and
 -- every window is the same. Assumes nothing.
+use Rattle.std.specs.Prelude.{Ok, Err}
 use Prim.Native.Nat.{ℕ, ◌+◌, ◌≤◌, ◌<◌}
 use mathlib.Core.Path.{◌≡◌, refl, sym, ap, ◌∙◌}
 use mathlib.Core.List.{List, [], ◌∷◌, ◌++◌}
@@ -20,8 +21,8 @@ use Rattle.window_numbers.specs.Numbers.{window_size}
 use Rattle.usn_window.specs.Run.{Call, CallShape, asks, gives, readings, place_of, given_by, fresh_over, shapes}
 use Rattle.usn_window.specs.Owed.{Delivery}
 use Rattle.usn_window.specs.declared.UsnJournalReader.{UsnJournalReader}
-use Rattle.usn_window.specs.declared.Answer.{Answer}
-use Rattle.usn_window.specs.declared.Answer.TheVariants.{Record, Wants, End, Refused}
+use Rattle.usn_window.specs.Answers.{Answered}
+use Rattle.usn_window.specs.declared.Answer.TheVariants.{Record, Wants, End}
 use Rattle.usn_window.specs.declared.Reading.{Reading}
 use Rattle.usn_window.proofs.BufferLaws.{Filled}
 use Rattle.usn_window.proofs.ReadLaws.{Good, good-up, reach, next-reads, next-good, give-good}
@@ -33,36 +34,36 @@ module _ (s t : List ℕ) where
   names = places_of (λ (p : Place). name_at s p.offset)
 
   -- the name of an answer's record lies past what the answer read, and before the position that it left
-  own-after : (a : Answer) (p q i : ℕ) → Good s p a q → i < reach s a q → Apart (names (place_of a)) i
-  own-after (Record o n r) p q i g h = apart-append (name_at s o) [] i (name-after-fixed s o i h) tt
-  own-after (Wants f k) p q i g h = tt
-  own-after End p q i g h = tt
-  own-after (Refused m) p q i g h = tt
+  own-after : (a : Answered) (p q i : ℕ) → Good s p a q → i < reach s a q → Apart (names (place_of a)) i
+  own-after (Ok (Record o n r)) p q i g h = apart-append (name_at s o) [] i (name-after-fixed s o i h) tt
+  own-after (Ok (Wants f k)) p q i g h = tt
+  own-after (Ok End) p q i g h = tt
+  own-after (Err m) p q i g h = tt
 
-  own-low : (a : Answer) (p q i : ℕ) → Good s p a q → i < p + 60 → Apart (names (place_of a)) i
-  own-low (Record o n r) p q i g h = apart-append (name_at s o) [] i (name-after-fixed s o i (omega (arith, fixed-low (le_at 2 s (o + 4))))) tt
-  own-low (Wants f k) p q i g h = tt
-  own-low End p q i g h = tt
-  own-low (Refused m) p q i g h = tt
+  own-low : (a : Answered) (p q i : ℕ) → Good s p a q → i < p + 60 → Apart (names (place_of a)) i
+  own-low (Ok (Record o n r)) p q i g h = apart-append (name_at s o) [] i (name-after-fixed s o i (omega (arith, fixed-low (le_at 2 s (o + 4))))) tt
+  own-low (Ok (Wants f k)) p q i g h = tt
+  own-low (Ok End) p q i g h = tt
+  own-low (Err m) p q i g h = tt
 
-  own-before : (a : Answer) (p q i : ℕ) → Good s p a q → q ≤ i → Apart (names (place_of a)) i
-  own-before (Record o n r) p q i g h = apart-append (name_at s o) [] i (name-before-end s o i (omega arith)) tt
-  own-before (Wants f k) p q i g h = tt
-  own-before End p q i g h = tt
-  own-before (Refused m) p q i g h = tt
+  own-before : (a : Answered) (p q i : ℕ) → Good s p a q → q ≤ i → Apart (names (place_of a)) i
+  own-before (Ok (Record o n r)) p q i g h = apart-append (name_at s o) [] i (name-before-end s o i (omega arith)) tt
+  own-before (Ok (Wants f k)) p q i g h = tt
+  own-before (Ok End) p q i g h = tt
+  own-before (Err m) p q i g h = tt
 
-  reach_near : (a : Answer) (p q i : ℕ) → Good s p a q → i < reach s a q → i < q + 60
-  reach_near (Record o n r) p q i g h = omega arith
-  reach_near (Wants f k) p q i g h = omega arith
-  reach_near End p q i g h = omega arith
-  reach_near (Refused m) p q i g h = omega arith
+  reach_near : (a : Answered) (p q i : ℕ) → Good s p a q → i < reach s a q → i < q + 60
+  reach_near (Ok (Record o n r)) p q i g h = omega arith
+  reach_near (Ok (Wants f k)) p q i g h = omega arith
+  reach_near (Ok End) p q i g h = omega arith
+  reach_near (Err m) p q i g h = omega arith
 
   -- the record of an answer is the same in both runs
-  own_same : (a : Answer) (p q : ℕ) → Good s p a q → Agree s t p (reach s a q) → All (λ (x : Place). listed t x.offset ≡ listed s x.offset) (place_of a)
-  own_same (Record o n r) p q g a = (listed-agrees o (agree-in o (o + fixed_of (le_at 2 s (o + 4))) a g.0 (omega arith)), tt)
-  own_same (Wants f k) p q g a = tt
-  own_same End p q g a = tt
-  own_same (Refused m) p q g a = tt
+  own_same : (a : Answered) (p q : ℕ) → Good s p a q → Agree s t p (reach s a q) → All (λ (x : Place). listed t x.offset ≡ listed s x.offset) (place_of a)
+  own_same (Ok (Record o n r)) p q g a = (listed-agrees o (agree-in o (o + fixed_of (le_at 2 s (o + 4))) a g.0 (omega arith)), tt)
+  own_same (Ok (Wants f k)) p q g a = tt
+  own_same (Ok End) p q g a = tt
+  own_same (Err m) p q g a = tt
 
   call-good : (c : CallShape) (w : UsnJournalReader) → Good s w.position (journal_reading s c w).answer (journal_reading s c w).reader.position
   unfolding journal_reading

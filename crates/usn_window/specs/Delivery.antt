@@ -1,6 +1,7 @@
 -- A source that delivers a journal to a fresh window, in pieces of any sizes, and what it has of it in the end.
-use Rattle.std.specs.Prelude.{ℕ, suc, ◌+◌, ◌*◌, ◌≤◌, min, ◌≡◌, List, [], ◌∷◌, ◌++◌, cond, ◌||◌, ◌&&◌, length, eqb}
+use Rattle.std.specs.Prelude.{ℕ, suc, ◌+◌, ◌*◌, ◌≤◌, min, ◌≡◌, List, [], ◌∷◌, ◌++◌, cond, ◌||◌, ◌&&◌, length, eqb, Ok, Err}
 use Rattle.base.specs.Outcome.{Outcome, refused, answered}
+use Rattle.base.specs.Refusals.{number_of}
 use Rattle.base.specs.Places.{part}
 use Rattle.base.specs.declared.Place.{Place}
 use Rattle.usn_record.specs.Record.{listed}
@@ -10,8 +11,8 @@ use Rattle.usn_window.specs.Rule.{named_from}
 use Rattle.usn_window.specs.Journal.{window_list}
 use Rattle.usn_window.specs.Run.{Call, next, give, State, reading_of, state_after, fresh_over}
 use Rattle.usn_window.specs.Owed.{Owed, nothing, owed_after}
-use Rattle.usn_window.specs.declared.Answer.{Answer}
-use Rattle.usn_window.specs.declared.Answer.TheVariants.{Record, Wants, End, Refused}
+use Rattle.usn_window.specs.Answers.{Answered}
+use Rattle.usn_window.specs.declared.Answer.TheVariants.{Record, Wants, End}
 
 -- Each size stands for one call: where bytes are owed it gives so many of them, or all if they are fewer; where none are, or the size is 0, it asks.
 abbrev pub call_of : List ℕ → ℕ → Owed → Call
@@ -47,11 +48,11 @@ with g misled = misled
 with g unfinished = unfinished
 
 -- what comes of an answer, with what is owed and the state after it, where the calls after it come to x
-abbrev pub result_of : Answer → Owed → State → Result → Result
-result_of (Record o n r) owed st x = with (got_of o n r st) x
-result_of (Wants from bytes) owed st x = cond (eqb from owed.from && eqb bytes owed.bytes) x misled
-result_of End owed st x = ended []
-result_of (Refused n) owed st x = stopped n
+abbrev pub result_of : Answered → Owed → State → Result → Result
+result_of (Ok (Record o n r)) owed st x = with (got_of o n r st) x
+result_of (Ok (Wants from bytes)) owed st x = cond (eqb from owed.from && eqb bytes owed.bytes) x misled
+result_of (Ok End) owed st x = ended []
+result_of (Err r) owed st x = stopped (number_of r)
 
 unfoldable pub deliver : List ℕ → List ℕ → Owed → State → Result
 deliver s [] o st = unfinished

@@ -1,4 +1,5 @@
 pub mod Window
+pub mod Answers
 pub mod Rule
 pub mod Calls
 pub mod Promise

@@ -1,5 +1,5 @@
 -- What the window does at its position, by the numbers and by what is read there.
-use Rattle.std.specs.Prelude.{ℕ, zero, suc, ◌+◌, ◌-◌, ◌%◌, ◌≤◌, ◌≡◌, List, cond, ◌||◌, ltb, eqb}
+use Rattle.std.specs.Prelude.{ℕ, zero, suc, ◌+◌, ◌-◌, ◌%◌, ◌≤◌, ◌≡◌, List, cond, ◌||◌, ltb, eqb, Ok}
 use Rattle.base.specs.Outcome.{Outcome, refused, answered}
 use Rattle.base.specs.Places.{place_from}
 use Rattle.usn_record.specs.Bytes.{le_at}
@@ -8,7 +8,7 @@ use Rattle.usn_record.specs.declared.UsnRecord.{UsnRecord}
 use Rattle.window_numbers.specs.Numbers.{window_size}
 use Rattle.usn_window.specs.Window.{wanted_of, refilled, skipped, advanced, moved_by, finished}
 use Rattle.usn_window.specs.declared.UsnJournalReader.{UsnJournalReader}
-use Rattle.usn_window.specs.declared.Answer.{Answer}
+use Rattle.usn_window.specs.Answers.{Answered}
 use Rattle.usn_window.specs.declared.Answer.TheVariants.{Record, Wants, End}
 use Rattle.usn_window.specs.declared.Reading.{Reading}
 use Rattle.usn_window.specs.declared.turn.Turn.{Turn}
@@ -49,16 +49,16 @@ named_from o r =
       parent_reference_high = r.parent_reference_high;
     }
 
-abbrev pub reading : Answer → UsnJournalReader → Reading
+abbrev pub reading : Answered → UsnJournalReader → Reading
 reading a w = record { answer = a; reader = w }
 
 -- the answer that wants the window's next bytes
 abbrev pub asking : UsnJournalReader → Reading
-asking w = reading (Wants (w.start + w.held) (wanted_of w)) w
+asking w = reading (Ok (Wants (w.start + w.held) (wanted_of w))) w
 
 -- the end, where the window's end is the stream's; otherwise w' is asked for
 abbrev pub or_end : UsnJournalReader → UsnJournalReader → Turn
-or_end w w' = cond (eqb w.end w.total) (Done (reading End (finished w))) (Done (asking w'))
+or_end w w' = cond (eqb w.end w.total) (Done (reading (Ok End) (finished w))) (Done (asking w'))
 
 -- a record of n bytes passes the window's end: refill, and where it passes the stream's end too, move on 8
 abbrev pub past_end : UsnJournalReader → ℕ → Turn
@@ -67,7 +67,7 @@ past_end w n = or_end w (cond (ltb w.total (w.position + n)) (skipped (refilled 
 -- a record of n bytes lies inside: it is given where its parser accepts it
 abbrev pub given : UsnJournalReader → ℕ → Outcome UsnRecord → Turn
 given w n (refused m) = Again (advanced w n)
-given w n (answered r) = Done (reading (Record w.position n (named_from (w.position - w.start) r)) (advanced w n))
+given w n (answered r) = Done (reading (Ok (Record w.position n (named_from (w.position - w.start) r))) (advanced w n))
 
 -- by the length field n; a zero word has length 0
 unfoldable pub turn_by_length : UsnJournalReader → ℕ → Outcome UsnRecord → Turn
@@ -86,7 +86,7 @@ onward stop go (Again w) = go w
 
 -- the answer of at most k turns
 unfoldable pub turns : Reads → ℕ → UsnJournalReader → Reading
-turns r zero w = reading End w
+turns r zero w = reading (Ok End) w
 turns r (suc k) w = onward (λ x. x) (turns r k) (turn_of r w)
 
 -- the answer of all turns: each that goes on moves the position, and one at the end does not go on

@@ -1,5 +1,5 @@
 -- Lists of calls, refused ones included, from one window and its buffer on.
-use Rattle.std.specs.Prelude.{ℕ, ◌-◌, ◌≡◌, List, [], ◌∷◌, ◌++◌, length}
+use Rattle.std.specs.Prelude.{ℕ, ◌-◌, ◌≡◌, List, [], ◌∷◌, ◌++◌, length, Ok, Err}
 use Rattle.base.specs.Outcome.{answered}
 use Rattle.base.specs.declared.Place.{Place}
 use Rattle.usn_record.specs.Bytes.{le_at}
@@ -11,8 +11,8 @@ use Rattle.usn_window.specs.Rule.{buffer_reads, named_from}
 use Rattle.usn_window.specs.Journal.{to_come}
 use Rattle.usn_window.specs.Calls.{next_of, give_of, buffer_after}
 use Rattle.usn_window.specs.declared.UsnJournalReader.{UsnJournalReader}
-use Rattle.usn_window.specs.declared.Answer.{Answer}
-use Rattle.usn_window.specs.declared.Answer.TheVariants.{Record, Wants, End, Refused}
+use Rattle.usn_window.specs.Answers.{Answered}
+use Rattle.usn_window.specs.declared.Answer.TheVariants.{Record, Wants, End}
 use Rattle.usn_window.specs.declared.Reading.{Reading}
 
 -- a call: with the window's own buffer, as the last call left it, or with another one
@@ -69,11 +69,11 @@ shapes [] = []
 shapes (c ∷ cs) = shape_of c ∷ shapes cs
 
 -- the records that answers give, by their places in the stream
-abbrev pub place_of : Answer → List Place
-place_of (Record o n r) = record { offset = o; length = n } ∷ []
-place_of (Wants from bytes) = []
-place_of End = []
-place_of (Refused n) = []
+abbrev pub place_of : Answered → List Place
+place_of (Ok (Record o n r)) = record { offset = o; length = n } ∷ []
+place_of (Ok (Wants from bytes)) = []
+place_of (Ok End) = []
+place_of (Err r) = []
 
 abbrev pub given_by : List Reading → List Place
 given_by [] = []
@@ -90,11 +90,11 @@ pub record RecordGiven (s : List ℕ) (o n : ℕ) (r : UsnRecord) (w : UsnJourna
   pub name-is : r ≡ named_from (o - w.start) fields
   pub size : n ≡ le_at 4 s o
 
-abbrev pub GivesRecord : List ℕ → Answer → UsnJournalReader → Type 0
-GivesRecord s (Record o n r) w = RecordGiven s o n r w
-GivesRecord s (Wants from bytes) w = Unit {0}
-GivesRecord s End w = Unit {0}
-GivesRecord s (Refused n) w = Unit {0}
+abbrev pub GivesRecord : List ℕ → Answered → UsnJournalReader → Type 0
+GivesRecord s (Ok (Record o n r)) w = RecordGiven s o n r w
+GivesRecord s (Ok (Wants from bytes)) w = Unit {0}
+GivesRecord s (Ok End) w = Unit {0}
+GivesRecord s (Err r) w = Unit {0}
 
 -- a fresh window over a journal, with a buffer
 abbrev pub fresh_over : List ℕ → List ℕ → State

@@ -1,7 +1,7 @@
 // The window over a journal that is delivered in pieces: `next` answers the next record or says which bytes it wants, `give` takes them.
 //
 // Every function here is proved. No call has a `requires`: numbers that cannot be a window's, a buffer of another length and too many
-// bytes are refused by number, and the window comes back equal.
+// bytes are refused, and the window comes back equal.
 //
 // However the bytes of a journal are delivered, one or more of the wanted ones at a time, no call is refused, the end is reached within
 // 4 calls a byte and 17 more, not counting those that ask again before all bytes are given, and the records are the same, with the
@@ -17,6 +17,7 @@ ghost use Rattle.usn_window.specs.Calls.{next_of};
 ghost use Rattle.usn_window.specs.Promise.{GivePromise};
 ghost use Rattle.usn_window.specs.Rule.{buffer_reads};
 
+use base::refusal::Refusal;
 use usn_record::UsnRecord;
 use window_numbers::WINDOW_SIZE;
 
@@ -35,7 +36,7 @@ pub struct UsnJournalReader {
     pub ended: bool,
 }
 
-// What a call answers.
+// What a call answers that is not refused.
 #[derive(Clone, Copy)]
 pub enum Answer {
     // A record: its place in the stream, and its fields. The place of its name counts from the start of the buffer.
@@ -51,14 +52,12 @@ pub enum Answer {
     },
     // There is no further record.
     End,
-    // The call is refused by its number.
-    Refused(u32),
 }
 
-// An answer, and the window after it.
+// An answer or a refusal, and the window after it.
 #[derive(Clone, Copy)]
 pub struct Reading {
-    pub answer: Answer,
+    pub answer: Result<Answer, Refusal>,
     pub reader: UsnJournalReader,
 }
 
@@ -82,22 +81,19 @@ impl UsnJournalReader {
     pub fn next(self, buffer: &[u8]) -> Reading
         ensures { result ≡ next_of (buffer_reads buffer.now) (length buffer.now) self }
     {
-        let refusal = self.refusal(buffer.len());
-        if refusal != 0 {
+        if let Err(refusal) = self.check(buffer.len()) {
             return Reading {
-                answer: Answer::Refused(refusal),
+                answer: Err(refusal),
                 reader: self,
             };
         }
-        let ended = self.ended;
-        if ended {
+        if self.ended {
             return Reading {
-                answer: Answer::End,
+                answer: Ok(Answer::End),
                 reader: self,
             };
         }
-        let wanted = self.wanted();
-        if wanted != 0 {
+        if self.wanted() != 0 {
             return self.asking();
         }
         self.search(buffer)
@@ -109,31 +105,29 @@ impl UsnJournalReader {
     pub fn give(self, buffer: &mut [u8], bytes: &[u8]) -> Reading
         ensures { GivePromise self buffer bytes result }
     {
-        let refusal = self.refusal(buffer.len());
-        if refusal != 0 {
+        if let Err(refusal) = self.check(buffer.len()) {
             return Reading {
-                answer: Answer::Refused(refusal),
+                answer: Err(refusal),
                 reader: self,
             };
         }
         let wanted = self.wanted();
         if wanted < bytes.len() {
             return Reading {
-                answer: Answer::Refused(base::TOO_MANY_BYTES),
+                answer: Err(Refusal::TooManyBytes),
                 reader: self,
             };
         }
-        if bytes.len() == 0 {
+        if bytes.is_empty() {
             if wanted == 0 {
                 return self.asking();
             }
             return Reading {
-                answer: Answer::End,
+                answer: Ok(Answer::End),
                 reader: self.finish(),
             };
         }
-        let held = self.held;
-        base::put_bytes(buffer, held, bytes);
+        base::put(buffer, self.held, bytes);
         self.fed(bytes.len()).asking()
     }
 }

@@ -1,4 +1,7 @@
 // The turns of a window that has all its bytes, until one answers.
+//
+// What is known of the window and its buffer stands in the `requires` of the three methods and in no type: a move makes a window of
+// which less is known, so that a type would be taken apart and made again at each.
 ghost use Rattle.std.specs.Prelude.{◌≡◌, length, ◌+◌, ◌≤◌, ◌<◌};
 ghost use Rattle.base.specs.Places.{place_from};
 ghost use Rattle.usn_window.specs.Window.{Ready};
@@ -8,7 +11,7 @@ use crate::{Answer, BUF_SIZE, Reading, UsnJournalReader};
 use base::Place;
 use usn_record::bytes::le_u32;
 use usn_record::zeros::skip_zeros;
-use usn_record::{Parsed, UsnRecord, listed_record};
+use usn_record::{UsnRecord, listed_record};
 
 // What a turn does: it answers, or goes on from another position.
 #[derive(Clone, Copy)]
@@ -18,7 +21,7 @@ pub enum Turn {
 }
 
 impl UsnJournalReader {
-    // The answer of all turns.
+    // The answer of all turns: each goes on by the window that the one before it leaves.
     pub(crate) fn search(self, buffer: &[u8]) -> Reading
         requires { Ready self (length buffer.now) }
         ensures { result ≡ searched (buffer_reads buffer.now) self }
@@ -47,9 +50,10 @@ impl UsnJournalReader {
             return self;
         }
         let past = skip_zeros(&buffer[..limit], at);
-        let mut next = self;
-        next.position = self.start + past;
-        next
+        UsnJournalReader {
+            position: self.start + past,
+            ..self
+        }
     }
 
     // One turn.
@@ -75,15 +79,15 @@ impl UsnJournalReader {
             return self.or_end(self.refill());
         }
         match listed_record(buffer, at) {
-            Parsed::Record(r) => Turn::Done(Reading {
-                answer: Answer::Record {
+            Ok(r) => Turn::Done(Reading {
+                answer: Ok(Answer::Record {
                     offset: self.position,
                     length: n,
                     record: named_from(at, r),
-                },
+                }),
                 reader: self.advance(n),
             }),
-            Parsed::Refused(_) => Turn::Again(self.advance(n)),
+            Err(_) => Turn::Again(self.advance(n)),
         }
     }
 
@@ -94,7 +98,7 @@ impl UsnJournalReader {
     {
         if self.end == self.total {
             Turn::Done(Reading {
-                answer: Answer::End,
+                answer: Ok(Answer::End),
                 reader: self.finish(),
             })
         } else {
@@ -104,14 +108,12 @@ impl UsnJournalReader {
 }
 
 // The record, with its name's place counted from o bytes before it.
-fn named_from(o: usize, r: UsnRecord) -> UsnRecord
+fn named_from(o: usize, mut r: UsnRecord) -> UsnRecord
     requires { o + r.filename.offset < 2000000000000 }
     ensures { result ≡ named o r }
 {
-    let name = place_from(o, r.filename);
-    let mut x = r;
-    x.filename = name;
-    x
+    r.filename = place_from(o, r.filename);
+    r
 }
 
 // The place, counted from o bytes before it; an empty one stays 0, 0.

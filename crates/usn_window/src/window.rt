@@ -1,17 +1,20 @@
 // The window's numbers: which may be a window's, what it wants, and its moves, each a method that returns the next window.
 ghost use Rattle.std.specs.Prelude.{◌≡◌, ◌+◌, ◌≤◌, ◌<◌};
+ghost use Rattle.base.specs.Outcome.{outcome};
+ghost use Rattle.base.specs.Words.{number};
 ghost use Rattle.usn_window.specs.Window.{window_refusal, wanted_of, refilled, skipped, advanced, finished, fed_by};
 ghost use Rattle.usn_window.specs.Rule.{asking as asks};
 
 use crate::{Answer, Reading, UsnJournalReader};
-use window_numbers::{refusal, window_end};
+use base::refusal::Refusal;
+use window_numbers::{check, window_end};
 
 impl UsnJournalReader {
-    // The number of the refusal of a call with a buffer of so many bytes, or 0.
-    pub(crate) fn refusal(self, buffer_length: usize) -> u32
-        ensures { result ≡ window_refusal self buffer_length }
+    // Whether a call with a buffer of so many bytes is answered, or why it is refused.
+    pub(crate) fn check(self, buffer_length: usize) -> Result<(), Refusal>
+        ensures { number (outcome result) ≡ window_refusal self buffer_length }
     {
-        refusal(
+        check(
             self.start,
             self.position,
             self.end,
@@ -39,10 +42,10 @@ impl UsnJournalReader {
         ensures { result ≡ asks self }
     {
         Reading {
-            answer: Answer::Wants {
+            answer: Ok(Answer::Wants {
                 from: self.start + self.held,
                 bytes: self.wanted(),
-            },
+            }),
             reader: self,
         }
     }
@@ -56,8 +59,7 @@ impl UsnJournalReader {
             position: self.position,
             end: window_end(self.position, self.total),
             held: 0,
-            total: self.total,
-            ended: self.ended,
+            ..self
         }
     }
 
@@ -66,9 +68,10 @@ impl UsnJournalReader {
         requires { self.position < 2000000000000 }
         ensures { result ≡ skipped self }
     {
-        let mut next = self;
-        next.position = self.position + 8;
-        next
+        UsnJournalReader {
+            position: self.position + 8,
+            ..self
+        }
     }
 
     // Past a record of n bytes.
@@ -76,9 +79,10 @@ impl UsnJournalReader {
         requires { (self.position < 2000000000000) × (n ≤ 65536) }
         ensures { result ≡ advanced self n }
     {
-        let mut next = self;
-        next.position = self.position + (n + 7) / 8 * 8;
-        next
+        UsnJournalReader {
+            position: self.position + (n + 7) / 8 * 8,
+            ..self
+        }
     }
 
     // With k bytes more in the buffer.
@@ -86,17 +90,19 @@ impl UsnJournalReader {
         requires { self.start + (self.held + k) ≤ self.end }
         ensures { result ≡ fed_by self k }
     {
-        let mut next = self;
-        next.held = self.held + k;
-        next
+        UsnJournalReader {
+            held: self.held + k,
+            ..self
+        }
     }
 
     // At its end: nothing is wanted any more.
     pub(crate) fn finish(self) -> UsnJournalReader
         ensures { result ≡ finished self }
     {
-        let mut next = self;
-        next.ended = true;
-        next
+        UsnJournalReader {
+            ended: true,
+            ..self
+        }
     }
 }

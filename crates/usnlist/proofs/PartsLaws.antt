@@ -6,6 +6,7 @@ use native.Mathlib.Omega.{arith}
 use lib.ListN.{length, take}
 use lib.Seq.{sets, take-append_seam}
 use Rattle.std.specs.declared.option.Option.{Option}
+use Rattle.std.specs.Prelude.{Result, Ok, Err, OnOk}
 use Rattle.std.specs.Io.KnownBytes.{Appends}
 use Rattle.std.proofs.KnownBytes.{Appends-nil, Appends-trans}
 use Rattle.base.specs.Lists.{flatten}
@@ -17,6 +18,11 @@ use Rattle.usn_lines.specs.Promise.{Puts, Begins}
 use Rattle.usn_lines.specs.declared.Begun.{Begun}
 use Rattle.usn_lines.specs.declared.Put.{Put}
 use Rattle.usn_lines.proofs.ListingLaws.{parts_next, parts_none, parts-make-listing}
+
+-- what follows from what holds on success
+pub on_ok : {A E P Q : Type 0} (x : Result A E) → (P → Q) → OnOk x P → OnOk x Q
+on_ok (Ok a) f p = f p
+on_ok (Err e) f p = p
 
 module _ (journal records words₀ : List ℕ) (start : Rewind) (count : ℕ) where
   abbrev whole : Standing

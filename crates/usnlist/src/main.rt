@@ -9,19 +9,20 @@
 // standard input gives and standard output takes: tests/usnlist holds that to the Rust original.
 #![tactic(auto)]
 
-ghost use Rattle.std.specs.Prelude.{◌*◌, ◌≤◌, ◌<◌, ◌≡◌, length, take, false, true};
+ghost use Rattle.std.specs.Prelude.{◌*◌, ◌≤◌, ◌<◌, ◌≡◌, length, take, false, OnOk};
 ghost use Rattle.std.specs.Io.KnownBytes.{Appends, Consumes, IsAtEnd};
 ghost use Rattle.usn_lines.specs.Listing.{listing, no_words};
 ghost use Rattle.usnlist.specs.Promise.{ListPromise, WritePromise, listing_text, parts_text};
 
 use rewind::Rewind;
+use std::io;
 use std::io::{Read, Write};
 use usn_lines::{begin, put_part};
 
 // The bytes of the input that are taken.
 const TAKEN: usize = 65536;
 
-// What was read: how many bytes, and whether a read failed after them.
+// What was read: how many bytes, and whether a read failed after them. Both are told, since the bytes before a failure are listed.
 #[derive(Drop)]
 struct Input {
     bytes: usize,
@@ -63,7 +64,7 @@ fn main(rt: HostRuntime) {
         warn(&rt, "usnlist: reading standard input failed");
     }
     let n = taken(&rt, input.bytes);
-    if !list_journal(&mut rt.stdout(), &buffer[..n]) {
+    if list_journal(&mut rt.stdout(), &buffer[..n]).is_err() {
         warn(&rt, "usnlist: writing standard output failed");
     }
 }
@@ -88,7 +89,7 @@ fn warn(rt: &impl Eprint, line: &str) {
     let _ = rt.eprintln(line);
 }
 
-// Reads until the buffer is full, the input ends or a read fails.
+// Reads until the buffer is full, the input ends or a read fails. A turn takes as many bytes as a read gives.
 fn read_input<R: Read>(input: &mut R, buffer: &mut [u8]) -> Input
     ensures within { result.bytes ≤ length buffer.old }
     ensures in_order { Consumes (R.remaining input.old) (R.remaining input.new) (take result.bytes buffer.new) }
@@ -129,10 +130,10 @@ fn read_some<R: Read>(input: &mut R, buffer: &mut [u8]) -> Input
     }
 }
 
-// The listing of a journal, and whether all of it was written.
-fn list_journal<W: Write>(out: &mut W, journal: &[u8]) -> bool
+// The listing of a journal. An error where not all of it was written.
+fn list_journal<W: Write>(out: &mut W, journal: &[u8]) -> io::Result<()>
     requires { length journal.now ≤ 65536 }
-    ensures { result ≡ true → Appends (W.contents out.old) (W.contents out.new) (listing journal.now) }
+    ensures { OnOk result (Appends (W.contents out.old) (W.contents out.new) (listing journal.now)) }
 {
     let mut list = list_words();
     let mut first = table_words();
@@ -147,18 +148,16 @@ fn write_listing<W: Write>(
     list: &mut [usize],
     first: &mut [u64],
     forward: &mut [u64],
-) -> bool
+) -> io::Result<()>
     requires { (length journal.now ≤ 65536) × (length list.old ≡ 2048) }
     ensures goes_through { ListPromise journal first forward result }
-    ensures written { result ≡ true → Appends (W.contents out.old) (W.contents out.new) (listing_text journal first forward) }
+    ensures written { OnOk result (Appends (W.contents out.old) (W.contents out.new) (listing_text journal first forward)) }
 {
     let begun = begin(journal, list, first, forward);
-    let records = begun.records;
-    let rewind = begun.rewind;
-    write_parts(out, journal, list, records, rewind, forward)
+    write_parts(out, journal, list, begun.records, begun.rewind, forward)
 }
 
-// All parts of the listing of the first so many records of a list, and whether all of them were written.
+// All parts of the listing of the first so many records of a list. An error where one was not written, and none after it.
 fn write_parts<W: Write>(
     out: &mut W,
     journal: &[u8],
@@ -166,22 +165,17 @@ fn write_parts<W: Write>(
     count: usize,
     start: Rewind,
     forward: &mut [u64],
-) -> bool
+) -> io::Result<()>
     requires { 2 * count ≤ length list.now }
     ensures goes_through { WritePromise journal list count start forward result }
-    ensures written { result ≡ true → Appends (W.contents out.old) (W.contents out.new) (parts_text journal list count start forward) }
+    ensures written { OnOk result (Appends (W.contents out.old) (W.contents out.new) (parts_text journal list count start forward)) }
 {
     let mut text = part();
     let mut rewind = start;
-    let mut number: usize = 0;
-    while number < count + 2 {
+    for number in 0..count + 2 {
         let put = put_part(journal, list, count, number, rewind, forward, &mut text);
-        let end = put.end;
-        if let Err(_) = out.write_all(&text[..end]) {
-            return false;
-        }
+        out.write_all(&text[..put.end])?;
         rewind = put.rewind;
-        number += 1;
     }
-    true
+    Ok(())
 }

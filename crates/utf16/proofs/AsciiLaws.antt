@@ -2,10 +2,10 @@
 use Prim.Native.Nat.{ℕ, ◌+◌, ◌-◌, ◌*◌, ◌/◌, ◌%◌, ◌≤◌, ◌<◌}
 use mathlib.Core.Path.{◌≡◌, refl, sym, ◌∙◌}
 use mathlib.Core.List.{List}
-use mathlib.Core.Bool.{true, false}
+use mathlib.Core.Bool.{true}
 use native.Mathlib.Nat.{add-zero}
 use native.Mathlib.Omega.{arith}
-use borrow.Author.Tests.{lt-ltb, le-ltb, ltb-true}
+use borrow.Author.Tests.{ltb-true}
 use lib.ListN.{length, get_or, take, drop}
 use lib.Dec.{ltb}
 use Rattle.base.proofs.ChoiceLaws.{and_left, and_right}
@@ -31,26 +31,6 @@ four-units n e =
       third = ltb-true _ _ (and_left (ltb (n / 0x100000000 % 0x10000) 0x80) _ last);
       fourth = ltb-true _ _ (and_right (ltb (n / 0x100000000 % 0x10000) 0x80) _ last);
     }
-
--- the test, by the first unit that is not below 80h, or by the last where the others are
-module _ (n : ℕ) where
-  pub first-other : 0x80 ≤ n % 0x10000 → false ≡ four_ascii n
-  unfolding four_ascii
-  first-other a = simp (le-ltb (n % 0x10000) 0x80 a)
-
-  module _ (a : n % 0x10000 < 0x80) where
-    pub second-other : 0x80 ≤ n / 0x10000 % 0x10000 → false ≡ four_ascii n
-    unfolding four_ascii
-    second-other b = simp (lt-ltb (n % 0x10000) 0x80 a, le-ltb (n / 0x10000 % 0x10000) 0x80 b)
-
-    module _ (b : n / 0x10000 % 0x10000 < 0x80) where
-      pub third-other : 0x80 ≤ n / 0x100000000 % 0x10000 → false ≡ four_ascii n
-      unfolding four_ascii
-      third-other c = simp (lt-ltb (n % 0x10000) 0x80 a, lt-ltb (n / 0x10000 % 0x10000) 0x80 b, le-ltb (n / 0x100000000 % 0x10000) 0x80 c)
-
-      pub fourth-if : n / 0x100000000 % 0x10000 < 0x80 → ltb (n / 0x1000000000000 % 0x10000) 0x80 ≡ four_ascii n
-      unfolding four_ascii
-      fourth-if c = simp (lt-ltb (n % 0x10000) 0x80 a, lt-ltb (n / 0x10000 % 0x10000) 0x80 b, lt-ltb (n / 0x100000000 % 0x10000) 0x80 c)
 
 -- four units that are joined to a number, out of it again
 apart : (a b c d : ℕ) {n : ℕ} → a < 0x10000 → b < 0x10000 → c < 0x10000 → d < 0x10000

@@ -1,5 +1,6 @@
 -- The digits of a number: they do not depend on the fuel, and are those of its tenth and the last. Assumes nothing.
-use Prim.Native.Nat.{ℕ, zero, suc, ◌+◌, ◌/◌, ◌%◌, ◌≤◌, ◌<◌}
+use Prim.Native.Nat.{ℕ, zero, suc, ◌+◌, ◌*◌, ◌/◌, ◌%◌, ◌^◌, ◌≤◌, ◌<◌}
+use native.Mathlib.Nat.{pow-succ', one-le-pow}
 use mathlib.Core.Path.{◌≡◌, refl, ap, ◌∙◌}
 use mathlib.Core.List.{List, [], ◌∷◌, ◌++◌}
 use native.Mathlib.Omega.{arith}
@@ -58,3 +59,11 @@ module _ (l : List ℕ) (i n : ℕ) {m : List ℕ} {r : ℕ} (more : 10 ≤ n) (
 
   pub put_last : Put l (set m r (digit (n % 10))) i (r + 1) (decimal n)
   put_last = put_as l i (decimal-more n more) (put_then l i (decimal (n / 10)) (digit (n % 10) ∷ []) p (record { value = refl; text_after = refl }))
+
+-- from a power of ten on, and below the next, a number has a digit more than the power
+pub digits-at : (k n : ℕ) → 10 ^ k ≤ n → n < 10 * 10 ^ k → length (decimal n) ≡ k + 1
+digits-at zero n g h = ap length (decimal-one n (omega arith))
+digits-at (suc k) n g h =
+    let p : 10 ^ suc k ≡ 10 * 10 ^ k = pow-succ' 10 k in
+    let one : 1 ≤ 10 ^ k = one-le-pow k 10 (omega arith) in
+    omega (arith, decimal-next n (omega arith), digits-at k (n / 10) (omega arith) (omega arith))

@@ -6,5 +6,4 @@ pub mod PutLaws
 pub mod AsciiLaws
 pub mod NameLaws
 pub mod DecimalLaws
-pub mod CallLaws
 pub mod Examples

@@ -57,9 +57,6 @@ pub record Putting (s : List ℕ) (offset n : ℕ) (l₀ : List ℕ) (at : ℕ) 
   pub count : i + length (decoded (units_at s o left)) ≡ at + length (decoded (units_at s offset n))
   pub ends : sets l i (decoded (units_at s o left)) ≡ sets l₀ at (decoded (units_at s offset n))
 
-pub putting-start : (s : List ℕ) (offset n : ℕ) (l : List ℕ) (at : ℕ) → offset + 2 * n ≤ length s → Putting s offset n l at l offset n at
-putting-start s offset n l at h = record { inside = h; same = refl; count = refl; ends = refl }
-
 module _ {s : List ℕ} {offset n : ℕ} {l₀ : List ℕ} {at : ℕ} {l : List ℕ} {o left i : ℕ} (w : Putting s offset n l₀ at l o left i) where
   -- the first code point that is left has room
   pub putting-room : {p : CodePoint} → First s o left p → at + length (decoded (units_at s offset n)) ≤ length l₀ → i + length (utf8 p.code) ≤ length l
@@ -92,16 +89,6 @@ module _ {s : List ℕ} {offset n : ℕ} {l₀ : List ℕ} {at : ℕ} {l : List 
         count = w.count;
         ends = sets_over l i us (decoded (units_at s o left)) h ∙ w.ends;
       }
-
-  -- what is left is written at once
-  pub rest-room : at + length (decoded (units_at s offset n)) ≤ length l₀ → i + length (decoded (units_at s o left)) ≤ length l
-  rest-room room = omega (arith, w.same, w.count)
-
-  pub rest-length : {m : List ℕ} {j : ℕ} → Put l m i j (decoded (units_at s o left)) → length m ≡ length l₀
-  rest-length p = ap length p.text_after ∙ length-sets l i (decoded (units_at s o left)) ∙ w.same
-
-  pub putting-rest : {m : List ℕ} {j : ℕ} → Put l m i j (decoded (units_at s o left)) → Put l₀ m at j (decoded (units_at s offset n))
-  putting-rest p = record { value = p.value ∙ w.count; text_after = p.text_after ∙ w.ends }
 
   pub putting-end : left ≤ 0 → Put l₀ l at i (decoded (units_at s offset n))
   putting-end h =

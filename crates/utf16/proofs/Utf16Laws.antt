@@ -1,15 +1,15 @@
 -- Pairs, units by themselves, and the first code point of units, by the tests that lead there. Assumes nothing.
 use Prim.Native.Nat.{ℕ, zero, suc, ◌+◌, ◌*◌, ◌≤◌, ◌<◌}
-use mathlib.Core.Path.{◌≡◌, refl, ap, sym}
+use mathlib.Core.Path.{◌≡◌, refl, ap}
 use mathlib.Core.List.{List, [], ◌∷◌}
 use mathlib.Core.Bool.{Bool, true, false, ◌&&◌, false≢true}
 use native.Mathlib.Omega.{arith}
 use native.Mathlib.Nat.{add_assoc}
-use borrow.Author.Tests.{le-leb, lt-leb, leb-true}
+use borrow.Author.Tests.{lt-leb, leb-true}
 use lib.ListN.{length}
 use lib.Dec.{leb}
 use Rattle.base.specs.Places.{part}
-use Rattle.base.proofs.ChoiceLaws.{cond_cases, and-false}
+use Rattle.base.proofs.ChoiceLaws.{cond_cases}
 use Rattle.usn_record.proofs.ByteLaws.{read-part}
 use Rattle.utf16.specs.Utf16.{is_high, is_low, is_surrogate, is_pair, joined, alone, code_points, units_at}
 
@@ -18,30 +18,9 @@ pub alone-below : (u : ℕ) → u < 0xD800 → u ≡ alone u
 unfolding alone
 alone-below u h = simp (lt-leb 0xD800 u h)
 
-pub alone-above : (u : ℕ) → 0xDFFF < u → u ≡ alone u
-unfolding alone
-alone-above u h = simp (le-leb 0xD800 u (omega arith), lt-leb u 0xDFFF h)
-
-pub alone-surrogate : (u : ℕ) → 0xD800 ≤ u → u ≤ 0xDFFF → 0xFFFD ≡ alone u
-unfolding alone
-alone-surrogate u g h = simp (le-leb 0xD800 u g, le-leb u 0xDFFF h)
-
 pub alone-small : (u : ℕ) → u < 0x10000 → alone u < 0x10000
 unfolding alone
 alone-small u h = cond_cases (λ (c : ℕ). c < 0x10000) (is_surrogate u) (λ _. omega arith) (λ _. h)
-
--- no pair: the first unit is below or above the high surrogates, or the second is no low one
-pub high-below : (u v : ℕ) → u < 0xD800 → false ≡ is_pair u v
-high-below u v h = simp (lt-leb 0xD800 u h)
-
-pub high-above : (u v : ℕ) → 0xDBFF < u → false ≡ is_pair u v
-high-above u v h = simp (le-leb 0xD800 u (omega arith), lt-leb u 0xDBFF h)
-
-pub low_below : (u v : ℕ) → v < 0xDC00 → false ≡ is_pair u v
-low_below u v h = sym (and-false (is_high u) (is_low v) (λ _. simp (lt-leb 0xDC00 v h)))
-
-pub pair-if : (u v : ℕ) → 0xD800 ≤ u → u ≤ 0xDBFF → 0xDC00 ≤ v → leb v 0xDFFF ≡ is_pair u v
-pair-if u v g h k = simp (le-leb 0xD800 u g, le-leb u 0xDBFF h, le-leb 0xDC00 v k)
 
 -- the units of a pair
 pub record Pair (u v : ℕ) : Type 0 where

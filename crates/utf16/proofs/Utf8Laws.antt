@@ -13,14 +13,6 @@ pub utf8-one : (c : ℕ) → c < 0x80 → utf8 c ≡ c ∷ []
 unfolding utf8
 utf8-one c h = simp (lt-ltb c 0x80 h)
 
-pub utf8-two : (c : ℕ) → 0x80 ≤ c → c < 0x800 → utf8 c ≡ (0xC0 + c / 0x40) ∷ trail c ∷ []
-unfolding utf8
-utf8-two c g h = simp (le-ltb c 0x80 g, lt-ltb c 0x800 h)
-
-pub utf8-three : (c : ℕ) → 0x800 ≤ c → c < 0x10000 → utf8 c ≡ (0xE0 + c / 0x1000) ∷ trail (c / 0x40) ∷ trail c ∷ []
-unfolding utf8
-utf8-three c g h = simp (le-ltb c 0x80 (omega arith), le-ltb c 0x800 g, lt-ltb c 0x10000 h)
-
 pub utf8-four : (c : ℕ) → 0x10000 ≤ c → utf8 c ≡ (0xF0 + c / 0x40000) ∷ trail (c / 0x1000) ∷ trail (c / 0x40) ∷ trail c ∷ []
 unfolding utf8
 utf8-four c g = simp (le-ltb c 0x80 (omega arith), le-ltb c 0x800 (omega arith), le-ltb c 0x10000 g)

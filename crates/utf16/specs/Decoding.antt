@@ -4,8 +4,6 @@ use Rattle.base.specs.Outcome.{Outcome, refused, answered}
 use Rattle.base.specs.Lists.{list_after}
 use Rattle.base.specs.Refusals.{above_domain, text_full, domain}
 use Rattle.utf16.specs.Text.{name_text}
-use Rattle.utf16.specs.declared.Decoded.{Decoded}
-use Rattle.utf16.specs.declared.Decoded.TheVariants.{Text, Refused}
 
 -- the text of a whole slice
 abbrev pub text_of : List ℕ → List ℕ
@@ -21,8 +19,3 @@ decoding s room =
 -- what the lent text l holds after that call
 abbrev pub text_after : List ℕ → List ℕ → List ℕ
 text_after s l = list_after (λ _. text_of s) (decoding s (length l)) l
-
--- what the call's answer says
-abbrev pub outcome : Decoded → Outcome ℕ
-outcome (Text n) = answered n
-outcome (Refused n) = refused n

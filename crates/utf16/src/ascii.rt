@@ -18,6 +18,7 @@ pub(crate) fn four_at(source: &[u8], offset: usize) -> u64
 }
 
 // Whether each of the four units is below 80h.
+#[tactic(auto, unfolding(crate::specs::Ascii::four_ascii))]
 pub(crate) fn four_ascii(units: u64) -> bool
     ensures { result ≡ four_ascii units }
 {
@@ -33,7 +34,8 @@ pub(crate) fn four_ascii(units: u64) -> bool
     units / 0x1_0000_0000_0000 % 0x1_0000 < 0x80
 }
 
-// Four units of ASCII into a text, which has room for them: a byte each.
+// Four units of ASCII into a text, which has room for them: a byte each, stored one by one for the speed (see put_code_point).
+#[tactic(auto, unfolding(crate::specs::Ascii::four_ascii))]
 pub(crate) fn put_four(text: &mut [u8], at: usize, units: u64)
     requires units_value { four_ascii units ≡ true }
     requires at_in_bounds { at + 4 ≤ length text.old }

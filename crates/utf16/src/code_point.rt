@@ -60,6 +60,7 @@ fn is_pair(u: u32, v: u32) -> bool
 }
 
 // The code point of a unit that is not of a pair.
+#[tactic(auto, unfolding(crate::specs::Utf16::alone))]
 fn unpaired(u: u32) -> u32
     ensures { result ≡ alone u }
 {
@@ -73,6 +74,7 @@ fn unpaired(u: u32) -> u32
 }
 
 // How many bytes a code point takes.
+#[tactic(auto, unfolding(crate::specs::Utf8::utf8))]
 pub(crate) fn code_point_length(code: u32) -> usize
     ensures { result ≡ length (utf8 code) }
 {
@@ -88,7 +90,9 @@ pub(crate) fn code_point_length(code: u32) -> usize
     4
 }
 
-// The UTF-8 of a code point into a text, which has room for it.
+// The UTF-8 of a code point into a text, which has room for it. Its bytes are stored one by one: as an array, through base::put, names that
+// are not in the cache take a fifth longer. `char::encode_utf8` promises nothing of the buffer that it writes.
+#[tactic(auto, unfolding(crate::specs::Utf8::utf8))]
 pub(crate) fn put_code_point(text: &mut [u8], at: usize, code: u32) -> usize
     requires code_bound { code < 0x110000 }
     requires code_in_bounds { at + length (utf8 code) ≤ length text.old }

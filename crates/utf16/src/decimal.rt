@@ -3,7 +3,8 @@ ghost use Rattle.std.specs.Prelude.{◌≡◌, ◌+◌, ◌≤◌, length};
 ghost use Rattle.std.proofs.lemmas.List.Edits.{sets};
 ghost use Rattle.utf16.specs.Decimal.{decimal};
 
-// The digits of n into a text, which has room for them.
+// The digits of n into a text, which has room for them. `write!` would want a writer with the text and the place, and would answer a Result;
+// the kit's itoa writes into a buffer of its own, from which they would be copied.
 pub fn put_decimal(text: &mut [u8], at: usize, n: u64) -> usize
     requires { at + length (decimal n) ≤ length text.old }
     ensures value { result ≡ at + length (decimal n) }
@@ -22,8 +23,8 @@ pub fn put_decimal(text: &mut [u8], at: usize, n: u64) -> usize
 pub fn decimal_length(n: u64) -> usize
     ensures { result ≡ length (decimal n) }
 {
-    if n < 10 {
-        return 1;
+    match n.checked_ilog10() {
+        Some(power) => power as usize + 1,
+        None => 1,
     }
-    decimal_length(n / 10) + 1
 }

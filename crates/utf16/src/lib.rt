@@ -13,29 +13,23 @@ pub mod plain;
 ghost use Rattle.utf16.specs.Promise.{DecodePromise};
 
 use crate::name::{has_room, put_name};
-use base::{ABOVE_DOMAIN, DOMAIN, TEXT_FULL};
-
-// What decoding answers: how many bytes the text takes, or a refusal's number.
-#[derive(Clone, Copy)]
-pub enum Decoded {
-    Text(usize),
-    Refused(u32),
-}
+use base::DOMAIN;
+use base::refusal::Refusal;
 
 // The units of the bytes as UTF-8, at the front of the text; the bytes after it are left alone. An unpaired surrogate gives
 // U+FFFD, and an odd last byte is dropped.
 // Refused, with nothing written: 1 the bytes are above the domain, 8 the text is too small. Room for three bytes a unit is
 // always enough, and then the units are read only once.
-pub fn decode_utf16(bytes: &[u8], text: &mut [u8]) -> Decoded
+#[tactic(auto, unfolding(crate::specs::Decoding::decoding))]
+pub fn decode_utf16(bytes: &[u8], text: &mut [u8]) -> Result<usize, Refusal>
     ensures { DecodePromise bytes text result }
 {
     let n = bytes.len();
     if DOMAIN < n {
-        return Decoded::Refused(ABOVE_DOMAIN);
+        return Err(Refusal::AboveDomain);
     }
-    if has_room(bytes, 0, n, text.len()) {
-        Decoded::Text(put_name(bytes, 0, n, text, 0))
-    } else {
-        Decoded::Refused(TEXT_FULL)
+    if !has_room(bytes, 0, n, text.len()) {
+        return Err(Refusal::TextFull);
     }
+    Ok(put_name(bytes, 0, n, text, 0))
 }

@@ -13,7 +13,8 @@ use usn_record::bytes::le_u16;
 
 // The name of size bytes at an offset of the source, into a text, which has room for it. An odd last byte is dropped.
 // A step over four units goes no further than to where a multiple of four is left; the bytes that it wrote beyond that are
-// written over. So a name of ASCII has no units left over at its end, unless it has fewer than four in all.
+// written over. So a name of ASCII has no units left over at its end, unless it has fewer than four in all. A turn takes one unit to four, so
+// that no `for` counts the turns.
 pub fn put_name(source: &[u8], offset: usize, size: usize, text: &mut [u8], at: usize) -> usize
     requires size_in_bounds { offset + size ≤ length source.now }
     requires size_in_bounds_2 { at + length (name_text source.now offset size) ≤ length text.old }
@@ -39,7 +40,8 @@ pub fn put_name(source: &[u8], offset: usize, size: usize, text: &mut [u8], at: 
     put_units(source, from, left, text, to)
 }
 
-// The text of so many units at an offset of the source, into a text, which has room for it.
+// The text of so many units at an offset of the source, into a text, which has room for it. A turn takes one unit or two, so that no `for`
+// counts them.
 fn put_units(source: &[u8], offset: usize, units: usize, text: &mut [u8], at: usize) -> usize
     requires units_in_bounds { offset + 2 * units ≤ length source.now }
     requires units_in_bounds_2 { at + length (decoded (units_at source.now offset units)) ≤ length text.old }
@@ -68,7 +70,7 @@ fn put_units(source: &[u8], offset: usize, units: usize, text: &mut [u8], at: us
     to
 }
 
-// How many bytes the text of a name takes.
+// How many bytes the text of a name takes, by turns of one unit or two.
 pub fn name_length(source: &[u8], offset: usize, size: usize) -> usize
     requires { offset + size ≤ length source.now }
     ensures { result ≡ length (name_text source.now offset size) }

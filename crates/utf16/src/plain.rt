@@ -2,6 +2,8 @@
 ghost use Rattle.std.specs.Prelude.{◌≡◌, [], ◌∷◌, ◌+◌, ◌≤◌, ◌<◌, length};
 ghost use Rattle.std.proofs.lemmas.List.Edits.{sets};
 
+use base::put;
+
 // One byte.
 pub fn put_byte(text: &mut [u8], at: usize, byte: u8) -> usize
     requires { at < length text.old }
@@ -18,6 +20,6 @@ pub fn put_bytes(text: &mut [u8], at: usize, bytes: &[u8]) -> usize
     ensures value { result ≡ at + length bytes.now }
     ensures text_after { text.new ≡ sets text.old at bytes.now }
 {
-    base::put_bytes(text, at, bytes);
+    put(text, at, bytes);
     at + bytes.len()
 }

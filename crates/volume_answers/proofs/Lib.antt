@@ -1,3 +1,2 @@
 pub mod DomainLaws
-pub mod PathLaws
 pub mod RewindLaws

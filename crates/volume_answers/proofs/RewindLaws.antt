@@ -7,7 +7,8 @@ use Rattle.base.specs.Words.{RowOut, Answers}
 use Rattle.base.proofs.WordLaws.{row_out}
 use Rattle.rewind_records.specs.Turning.{Next, next}
 use Rattle.rewind.specs.declared.Rewind.{Rewind}
-use Rattle.volume_answers.specs.Rewind.{rewind_words, next_words}
+use Rattle.rewind.specs.Words.{rewind_words}
+use Rattle.volume_answers.specs.Rewind.{next_words}
 
 -- the kind and the state, and what the record tells behind them
 pub step-out : {A : Type 0} (words : A → List ℕ) (w : Rewind) {x : Outcome (Next A)} {a : A} → x ≡ answered (next a) → {front rest : List ℕ} → front ≡ 1 ∷ rewind_words w

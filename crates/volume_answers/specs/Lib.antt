@@ -1,4 +1,3 @@
 pub mod Domain
 pub mod Key
-pub mod Path
 pub mod Rewind

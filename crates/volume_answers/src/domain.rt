@@ -3,15 +3,16 @@ ghost use Rattle.std.specs.Prelude.{◌≡◌};
 ghost use Rattle.base.specs.Words.{short_by};
 ghost use Rattle.volume_answers.specs.Domain.{either_above};
 
+use base::DOMAIN;
+use base::refusal::Refusal;
 use base::words::short;
-use base::{ABOVE_DOMAIN, DOMAIN};
 
-// 1 where journal or image is above the domain, else 5.
+// 1 where journal or image is above the domain, else 5, as C gets it.
 pub fn short_over(journal: &[u8], image: &[u8]) -> u32
     ensures { result ≡ short_by (either_above journal.now image.now) }
 {
     if DOMAIN < journal.len() {
-        return ABOVE_DOMAIN;
+        return Refusal::AboveDomain.number();
     }
     short(DOMAIN < image.len())
 }

@@ -12,7 +12,8 @@ use Rattle.chain.specs.Chain.{Chain, resolved}
 use Rattle.chain.specs.Tracing.{chain_after}
 use Rattle.path_text.specs.Text.{place_text, place_length, path_text}
 use Rattle.path.specs.Written.{written_path}
-use Rattle.volume_answers.specs.Path.{resolved_words, written_words}
+use Rattle.chain.specs.Words.{resolved_words}
+use Rattle.path.specs.Words.{written_words}
 use Rattle.volume_ffi.specs.Image.{carve_call, carved_words}
 use Rattle.volume_ffi.specs.Names.{decode_call, decoded_bytes}
 use Rattle.volume_ffi.specs.Path.{resolve_call, chain_call, place_call}

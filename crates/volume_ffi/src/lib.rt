@@ -17,11 +17,15 @@ ghost use Rattle.volume_answers.specs.Key.{key_of};
 ghost use Rattle.volume_ffi.specs.Promise.{CarveCallPromise, DecodeCallPromise, PlaceCallPromise, ChainCallPromise, ResolvePromise};
 
 use base::DOMAIN;
-use base::words::short;
+use base::words::{put_answer, short};
+use chain::words::CHAIN_WORDS;
 use entry_slots::EntryKey;
-use volume_answers::answers::{IMAGE_STATS_WORDS, TEXT_WORDS, put_image_stats, put_length};
+use mft_carver::rows::STATS_WORDS;
+use path::words::PATH_WORDS;
 use volume_answers::domain::short_over;
-use volume_answers::paths::{CHAIN_WORDS, PATH_WORDS, put_chain, put_path};
+
+// The words of what decoding answers.
+const TEXT_WORDS: usize = 1;
 
 // The MFT entries in an image: for each nine words of list, namely its offset, number and sequence, its name's offset and length
 // in bytes, its parent's entry and sequence, and 1 or 0 for a directory and for in use. And 4 words of out: the bytes scanned, the
@@ -31,10 +35,10 @@ use volume_answers::paths::{CHAIN_WORDS, PATH_WORDS, put_chain, put_path};
 pub extern "C" fn mft_carve_entries(image: &[u8], list: &mut [u64], out: &mut [u64]) -> u32
     ensures { CarveCallPromise image list out result }
 {
-    if out.len() < IMAGE_STATS_WORDS {
+    if out.len() < STATS_WORDS {
         return short(DOMAIN < image.len());
     }
-    put_image_stats(mft_carver::carve_mft_entries(image, list), out)
+    put_answer(mft_carver::carve_mft_entries(image, list), out)
 }
 
 // The UTF-16 units of a name's bytes as UTF-8, in front of text, and how many bytes that takes, a word of out.
@@ -46,7 +50,7 @@ pub extern "C" fn utf16_decode(bytes: &[u8], text: &mut [u8], out: &mut [u64]) -
     if out.len() < TEXT_WORDS {
         return short(DOMAIN < bytes.len());
     }
-    put_length(utf16::decode_utf16(bytes, text), out)
+    put_answer(utf16::decode_utf16(bytes, text), out)
 }
 
 // The path of a key, with its text in front of text. The places of its names go to the front of chain, the top one first, three
@@ -72,7 +76,7 @@ pub extern "C" fn path_resolve(
     if out.len() < PATH_WORDS {
         return short_over(journal, image);
     }
-    put_path(
+    put_answer(
         path::path(
             journal,
             image,
@@ -104,7 +108,7 @@ pub extern "C" fn path_chain(
     if out.len() < CHAIN_WORDS {
         return short_over(journal, image);
     }
-    put_chain(
+    put_answer(
         chain::path_chain(
             journal,
             image,
@@ -136,7 +140,7 @@ pub extern "C" fn path_decode(
     if out.len() < TEXT_WORDS {
         return short_over(journal, image);
     }
-    put_length(
+    put_answer(
         path_text::decode(journal, image, source, offset, length, text),
         out,
     )

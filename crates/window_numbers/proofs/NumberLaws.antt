@@ -15,10 +15,6 @@ module _ (start end total : ℕ) where
   unfolding wrong_end
   right_end h = simp (eq-eqb _ _ h)
 
-  pub first-end : (end ≡ window_end start total → ⊥) → end ≡ 0 → false ≡ wrong_end start end total
-  unfolding wrong_end
-  first-end g h = simp (ne_eqb _ _ g, eq-eqb _ _ h)
-
   pub other-end : (end ≡ window_end start total → ⊥) → (end ≡ 0 → ⊥) → true ≡ wrong_end start end total
   unfolding wrong_end
   other-end g h = simp (ne_eqb _ _ g, ne_eqb _ _ h)

@@ -1,6 +1,6 @@
--- Each case ends further on than the last, so what is left gets less.
-use Rattle.std.proofs.Common.{◌-◌, length}
+-- What is left of the recording gets less with each case.
+use Rattle.std.proofs.Common.{length}
 use Rattle.replay.proofs.replay_all.Given as goal
 
-abbrev pub decreases-loop-kind : goal.decreases-loop-kind
-decreases-loop-kind g l = length l.cases - l.at
+abbrev pub decreases-loop-case : goal.decreases-loop-case
+decreases-loop-case g l = length l.rest

@@ -7,4 +7,4 @@ pub returns-then-out-lt-RUN_WORDS : goal.returns-then-out-lt-RUN_WORDS
 returns-then-out-lt-RUN_WORDS c = runs-short _ _ _ _ _ _ _ _ _ _ c.if-out-lt-RUN_WORDS.true c.short_over.ensures
 
 pub returns : goal.returns
-returns c = runs-answered _ _ _ _ _ _ _ _ _ _ c.if-out-lt-RUN_WORDS.false c.rewind_run.ensures c.put_run.ensures
+returns c = runs-answered _ _ _ _ _ _ _ _ _ _ c.if-out-lt-RUN_WORDS.false c.rewind_run.ensures c.put_answer.ensures

@@ -9,4 +9,4 @@ pub returns-then-out-lt-START_WORDS : goal.returns-then-out-lt-START_WORDS
 returns-then-out-lt-START_WORDS c = let a = c.args in starts-short _ _ _ _ (start-domain a.journal.now a.image.now a.records.now a.slots.now a.used a.forward.now) c.if-out-lt-START_WORDS.true c.short_over.ensures
 
 pub returns : goal.returns
-returns c = starts-answered _ _ _ _ c.if-out-lt-START_WORDS.false c.rewind_start.ensures.first c.rewind_start.ensures.forward (out-mapped _ (out-same c.put_start.ensures c.rewind_start.ensures.answer))
+returns c = starts-answered _ _ _ _ c.if-out-lt-START_WORDS.false c.rewind_start.ensures.first c.rewind_start.ensures.forward (out-mapped _ (out-same c.put_answer.ensures c.rewind_start.ensures.answer))

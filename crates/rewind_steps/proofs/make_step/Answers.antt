@@ -3,7 +3,8 @@ use mathlib.Core.Path.{refl, ap, ◌∙◌}
 use native.Mathlib.Omega.{arith}
 use Rattle.entry_slots.specs.Table.{table}
 use Rattle.entry_slots.proofs.ProbeLaws.{probed-slot}
-use Rattle.entry_table.specs.Promise.{outcome}
+use Rattle.base.specs.Outcome.{outcome}
+use Rattle.base.proofs.RefusalLaws.{handed-on}
 use Rattle.additions.proofs.EntryLaws.{added-forward}
 use Rattle.rewind_steps.proofs.MakeLaws.{make-none, make-refused, make-asks, make-written}
 use Rattle.rewind_steps.proofs.make_step.Goals as goal
@@ -19,11 +20,11 @@ add_found-requires c = record { used_bound = c.requires.fits; indexed = (c.requi
 
 pub tell-requires : goal.tell-requires
 tell-requires c = let s = c.args in
-    let asks = make-asks s.journal.now s.image.now (table s.forward.now s.stand.used) s.entry s.text.now s.stand.at s.heads.now s.nexts.now c.requires.fits c.requires.index (added-forward refl c.replaces_forward.ensures) c.add_found.ensures.store.answer c.add_found.ensures.store.slots-are c.add_found.ensures.heads-are c.add_found.ensures.nexts-are (ap outcome c.in-Used.is) c.if-forward-slot.false c.requires in
+    let asks = make-asks s.journal.now s.image.now (table s.forward.now s.stand.used) s.entry s.text.now s.stand.at s.heads.now s.nexts.now c.requires.fits c.requires.index (added-forward refl c.replaces_forward.ensures) c.add_found.ensures.store.answer c.add_found.ensures.store.slots-are c.add_found.ensures.heads-are c.add_found.ensures.nexts-are (ap outcome c.in_ok-used.was) c.if-forward-slot.false c.requires in
     record { step_asks = asks.0; slot_bound = asks.1 }
 
-pub returns-in-Refused : goal.returns-in-Refused
-returns-in-Refused c = let s = c.args in make-refused s.journal.now s.image.now (table s.forward.now s.stand.used) s.entry s.text.now s.stand.at s.heads.now s.nexts.now c.requires.fits c.requires.index (added-forward refl c.replaces_forward.ensures) c.add_found.ensures.store.answer c.add_found.ensures.store.slots-are c.add_found.ensures.heads-are c.add_found.ensures.nexts-are (ap outcome c.in-Refused.is)
+pub returns-in_err-used : goal.returns-in_err-used
+returns-in_err-used c = let s = c.args in rw (handed-on _ c.from_residual.ensures.1) (make-refused s.journal.now s.image.now (table s.forward.now s.stand.used) s.entry s.text.now s.stand.at s.heads.now s.nexts.now c.requires.fits c.requires.index (added-forward refl c.replaces_forward.ensures) c.add_found.ensures.store.answer c.add_found.ensures.store.slots-are c.add_found.ensures.heads-are c.add_found.ensures.nexts-are (ap outcome c.in_err-used.was))
 
-pub returns-in-Used : goal.returns-in-Used
-returns-in-Used c = let s = c.args in make-written s.journal.now s.image.now (table s.forward.now s.stand.used) s.entry s.text.now s.stand.at s.heads.now s.nexts.now c.requires.fits c.requires.index (added-forward refl c.replaces_forward.ensures) c.add_found.ensures.store.answer c.add_found.ensures.store.slots-are c.add_found.ensures.heads-are c.add_found.ensures.nexts-are (ap outcome c.in-Used.is) (c.slot_of-slot.ensures ∙ probed-slot _ _ _ _ c.seek-found.ensures) c.key_at-key.ensures c.info_at-info.ensures c.tell.ensures
+pub returns : goal.returns
+returns c = let s = c.args in make-written s.journal.now s.image.now (table s.forward.now s.stand.used) s.entry s.text.now s.stand.at s.heads.now s.nexts.now c.requires.fits c.requires.index (added-forward refl c.replaces_forward.ensures) c.add_found.ensures.store.answer c.add_found.ensures.store.slots-are c.add_found.ensures.heads-are c.add_found.ensures.nexts-are (ap outcome c.in_ok-used.was) (c.slot_of-slot.ensures ∙ probed-slot _ _ _ _ c.seek-found.ensures) c.key_at.ensures c.info_at.ensures c.tell.ensures

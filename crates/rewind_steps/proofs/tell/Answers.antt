@@ -23,9 +23,9 @@ put-requires c = omega (arith, c.requires.slot_bound.0)
 pub build-requires : goal.build-requires
 build-requires c = (omega (arith, simp length-put at (ap length c.put.ensures), c.requires.slot_bound.1, c.requires.step_asks.fits), λ h. let g = c.requires.step_asks.wide h in omega (arith, c.requires.slot_bound.1, c.requires.step_asks.fits))
 
-pub returns-in-To : goal.returns-in-To
-returns-in-To c = let s = c.args in tell-to s.journal.now s.image.now (table s.forward.now s.stand.used) s.entered.info.parent s.entered.info.name s.text.now s.stand.at c.climb-up.ensures (tell-asks c.requires.step_asks) (length s.heads.now) s.nexts.now (table (put_at s.forward.now s.entered.held.slot s.entered.held.key s.entered.held.info) s.entered.held.used) c.put_behind.ensures c.in-To.is c.resolved-path.ensures c.requires.step_asks.index.0 c.requires.step_asks.index.1
+pub returns-in-Some : goal.returns-in-Some
+returns-in-Some c = let s = c.args in tell-to s.journal.now s.image.now (table s.forward.now s.stand.used) s.entered.info.parent s.entered.info.name s.text.now s.stand.at c.climb-up.ensures (tell-asks c.requires.step_asks) (length s.heads.now) s.nexts.now (table (put_at s.forward.now s.entered.held.slot s.entered.held.key s.entered.held.info) s.entered.held.used) c.put_behind.ensures c.in-Some.is c.resolved.ensures c.requires.step_asks.index.0 c.requires.step_asks.index.1
 
-pub returns-in-Full : goal.returns-in-Full
-returns-in-Full c = let s = c.args in
-    tell-full s.journal.now s.image.now (table s.forward.now s.stand.used) s.entered.info.parent s.entered.info.name s.text.now s.stand.at c.climb-up.ensures (tell-asks c.requires.step_asks) (length s.heads.now) s.nexts.now (table (put_at s.forward.now s.entered.held.slot s.entered.held.key s.entered.held.info) s.entered.held.used) c.put_behind.ensures c.in-Full.is c.put.ensures (c.build.ensures.heads_after ∙ ap (λ (w : List ℕ). heads_of (length s.heads.now) (table w s.entered.held.used)) c.put.ensures) (c.build.ensures.nexts_after ∙ ap (λ (w : List ℕ). nexts_of (length s.heads.now) (table w s.entered.held.used) s.nexts.now) c.put.ensures)
+pub returns-in-None : goal.returns-in-None
+returns-in-None c = let s = c.args in
+    tell-full s.journal.now s.image.now (table s.forward.now s.stand.used) s.entered.info.parent s.entered.info.name s.text.now s.stand.at c.climb-up.ensures (tell-asks c.requires.step_asks) (length s.heads.now) s.nexts.now (table (put_at s.forward.now s.entered.held.slot s.entered.held.key s.entered.held.info) s.entered.held.used) c.put_behind.ensures c.in-None.is c.put.ensures (c.build.ensures.heads_after ∙ ap (λ (w : List ℕ). heads_of (length s.heads.now) (table w s.entered.held.used)) c.put.ensures) (c.build.ensures.nexts_after ∙ ap (λ (w : List ℕ). nexts_of (length s.heads.now) (table w s.entered.held.used) s.nexts.now) c.put.ensures)

@@ -5,7 +5,7 @@ use Rattle.table_ffi.proofs.CallLaws.{stores-short, stores-answered}
 use Rattle.table_ffi.proofs.table_insert.Goals as goal
 
 pub returns-then-out-lt-USED_WORDS : goal.returns-then-out-lt-USED_WORDS
-returns-then-out-lt-USED_WORDS c = stores-short _ _ _ (storing-domain _ _ _) c.if-out-lt-USED_WORDS.true
+returns-then-out-lt-USED_WORDS c = stores-short _ _ _ (storing-domain _ _ _) c.if-out-lt-USED_WORDS.true c.number.ensures
 
 pub returns : goal.returns
-returns c = stores-answered _ _ _ c.if-out-lt-USED_WORDS.false c.insert.result (rw c.entry_info.ensures at c.insert.ensures.answer) (rw c.entry_info.ensures at c.insert.ensures.slots-are) c.put_used.ensures
+returns c = stores-answered _ _ _ c.if-out-lt-USED_WORDS.false c.insert.result (rw c.entry_info.ensures at c.insert.ensures.answer) (rw c.entry_info.ensures at c.insert.ensures.slots-are) c.put_answer.ensures

@@ -7,11 +7,8 @@ use Rattle.usn_carver.proofs.carve.Goals as goal
 pub returns-then-extract-gt-DOMAIN : goal.returns-then-extract-gt-DOMAIN
 returns-then-extract-gt-DOMAIN c = refuses-above-domain _ _ _ c.if-extract-gt-DOMAIN.true
 
-pub fill_list-requires : goal.fill_list-requires
-fill_list-requires c = leb-true _ _ (sym c.has_room.ensures ∙ c.if-has_room.true)
+pub returns-then-not-has_room : goal.returns-then-not-has_room
+returns-then-not-has_room c = refuses-full _ _ _ c.if-extract-gt-DOMAIN.false (leb-false _ _ (sym c.has_room.ensures ∙ c.if-not-has_room.true))
 
-pub returns-then-has_room : goal.returns-then-has_room
-returns-then-has_room c = carves _ _ _ c.if-extract-gt-DOMAIN.false (leb-true _ _ (sym c.has_room.ensures ∙ c.if-has_room.true)) c.fill_list.ensures
-
-pub returns-else-has_room : goal.returns-else-has_room
-returns-else-has_room c = refuses-full _ _ _ c.if-extract-gt-DOMAIN.false (leb-false _ _ (sym c.has_room.ensures ∙ c.if-has_room.false))
+pub returns : goal.returns
+returns c = carves _ _ _ c.if-extract-gt-DOMAIN.false (leb-true _ _ (sym c.has_room.ensures ∙ c.if-not-has_room.false)) c.fill_list.ensures

@@ -7,4 +7,4 @@ pub returns-then-out-lt-STATS_WORDS : goal.returns-then-out-lt-STATS_WORDS
 returns-then-out-lt-STATS_WORDS c = lists-short _ _ 5 _ _ _ (carving-domain _ _ _) c.if-out-lt-STATS_WORDS.true c.short.ensures
 
 pub returns : goal.returns
-returns c = lists-answered _ _ _ _ _ _ c.if-out-lt-STATS_WORDS.false c.carve_usn_records.ensures.places (out-same c.put_stats.ensures c.carve_usn_records.ensures.answer)
+returns c = lists-answered _ _ _ _ _ _ c.if-out-lt-STATS_WORDS.false c.carve_usn_records.ensures.places (out-same c.put_answer.ensures c.carve_usn_records.ensures.answer)

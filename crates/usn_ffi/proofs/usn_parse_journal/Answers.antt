@@ -8,4 +8,4 @@ pub returns-then-out-lt-COUNT_WORDS : goal.returns-then-out-lt-COUNT_WORDS
 returns-then-out-lt-COUNT_WORDS c = lists-short _ _ 1 _ _ _ (scan-domain _ _) c.if-out-lt-COUNT_WORDS.true c.short.ensures
 
 pub returns : goal.returns
-returns c = lists-answered _ _ _ _ _ _ c.if-out-lt-COUNT_WORDS.false c.parse_usn_journal.ensures.places (journal-out _ _ c.parse_usn_journal.ensures.answer c.put_count.ensures)
+returns c = lists-answered _ _ _ _ _ _ c.if-out-lt-COUNT_WORDS.false c.parse_usn_journal.ensures.places (journal-out _ _ c.parse_usn_journal.ensures.answer c.put_answer.ensures)

@@ -7,4 +7,4 @@ pub returns-then-words-lt-RECORD_WORDS : goal.returns-then-words-lt-RECORD_WORDS
 returns-then-words-lt-RECORD_WORDS c = record-short _ _ (parsed-domain _ _) c.if-words-lt-RECORD_WORDS.true c.short.ensures
 
 pub returns : goal.returns
-returns c = record-answers _ _ c.if-words-lt-RECORD_WORDS.false c.parse_usn_record_v2.ensures c.put_record.ensures
+returns c = record-answers _ _ c.if-words-lt-RECORD_WORDS.false c.parse_usn_record_v2.ensures c.put_answer.ensures

@@ -3,7 +3,7 @@ use Rattle.usn_ffi.proofs.WindowLaws.{short-reader, give-refused, give-short, gi
 use Rattle.usn_ffi.proofs.usn_reader_give.Goals as goal
 
 pub returns-then-reader-lt-READER_WORDS : goal.returns-then-reader-lt-READER_WORDS
-returns-then-reader-lt-READER_WORDS c = give-refused _ _ _ _ (short-reader _ _ _ c.if-reader-lt-READER_WORDS.true)
+returns-then-reader-lt-READER_WORDS c = rw c.number.ensures (give-refused _ _ _ _ (short-reader _ _ _ c.if-reader-lt-READER_WORDS.true))
 
 pub returns-then-out-lt-READING_WORDS : goal.returns-then-out-lt-READING_WORDS
 returns-then-out-lt-READING_WORDS c = give-short _ _ _ _ c.if-reader-lt-READER_WORDS.false c.reader_of-w.ensures c.if-out-lt-READING_WORDS.true c.short.ensures

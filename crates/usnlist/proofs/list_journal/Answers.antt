@@ -4,4 +4,4 @@ use Rattle.usnlist.proofs.list_journal.Goals as goal
 
 pub returns : goal.returns
 unfolding listing
-returns g c = λ e. rw (c.table_words-first.ensures.zeros, c.table_words-forward.ensures.zeros) at (c.write_listing.ensures.written e)
+returns g c = rw (c.table_words-first.ensures.zeros, c.table_words-forward.ensures.zeros) at c.write_listing.ensures.written

@@ -17,16 +17,16 @@ loop-number-preserved g c =
       going = going_next c.args.journal.now _ c.args.forward.now c.args.start c.args.count c.loop-number.invariant.going (omega arith) c.put_part-put.ensures (omega arith);
       written =
           written_next c.args.journal.now _ c.args.forward.now c.args.start c.args.count c.loop-number.invariant.written (omega arith) (omega arith) c.put_part-put.ensures
-          c.in_default.ensures.bytes;
+          c.in_ok-write_all.ensures.bytes;
     }
 
 pub returns : goal.returns
 returns g c =
     record {
       goes_through =
-          λ e. going_end c.args.journal.now _ c.args.forward.now c.args.start c.args.count c.loop-number.invariant.going (records-taken c.args.list.now c.args.count c.requires)
+          going_end c.args.journal.now _ c.args.forward.now c.args.start c.args.count c.loop-number.invariant.going (records-taken c.args.list.now c.args.count c.requires)
           (omega arith);
       written =
-          λ e. written_end c.args.journal.now _ c.args.forward.now c.args.start c.args.count c.loop-number.invariant.written (records-taken c.args.list.now c.args.count c.requires)
+          written_end c.args.journal.now _ c.args.forward.now c.args.start c.args.count c.loop-number.invariant.written (records-taken c.args.list.now c.args.count c.requires)
           (omega arith);
     }

@@ -1,17 +1,13 @@
--- Each way out by its tests.
-use mathlib.Core.Path.{sym, ◌∙◌}
-use native.Mathlib.Omega.{arith}
-use Rattle.utf16.proofs.CallLaws.{above-domain, text-room, text-full, text-written}
+-- What was put from the front is the whole text.
+use Rattle.std.proofs.Common.{◌≤◌, length, arith}
+use Rattle.std.proofs.lemmas.Grind.{common_steps}
+use Rattle.base.proofs.ListLaws.{sets-front}
+use Rattle.utf16.specs.Decoding.{decoding, text_of}
 use Rattle.utf16.proofs.decode_utf16.Goals as goal
 
-pub returns-then-n-gt-DOMAIN : goal.returns-then-n-gt-DOMAIN
-returns-then-n-gt-DOMAIN c = above-domain _ _ c.if-n-gt-DOMAIN.true
-
-pub put_name-requires : goal.put_name-requires
-put_name-requires c = record { size_in_bounds = omega arith; size_in_bounds_2 = text-room _ c.args.text.now (sym c.has_room.ensures ∙ c.if-has_room.true) }
-
-pub returns-then-has_room : goal.returns-then-has_room
-returns-then-has_room c = text-written _ _ c.if-n-gt-DOMAIN.false (sym c.has_room.ensures ∙ c.if-has_room.true) c.put_name.ensures
-
-pub returns-else-has_room : goal.returns-else-has_room
-returns-else-has_room c = text-full _ _ c.if-n-gt-DOMAIN.false (sym c.has_room.ensures ∙ c.if-has_room.false)
+pub returns : goal.returns
+unfolding decoding
+returns c =
+    let h : length (text_of c.args.bytes.now) ≤ length c.args.text.now = grind (arith, common_steps) in
+    let f = sets-front c.args.text.now (text_of c.args.bytes.now) h in
+    grind (arith, common_steps)

@@ -9,4 +9,4 @@ pub returns-then-out-lt-CHAIN_WORDS : goal.returns-then-out-lt-CHAIN_WORDS
 returns-then-out-lt-CHAIN_WORDS c = traces-short _ _ _ _ _ (tracing-domain c.args.journal.now c.args.image.now _ _ _) c.if-out-lt-CHAIN_WORDS.true c.short_over.ensures
 
 pub returns : goal.returns
-returns c = traces-answered _ _ _ _ _ c.if-out-lt-CHAIN_WORDS.false c.path_chain.ensures.places (out-mapped _ (out-same c.put_chain.ensures c.path_chain.ensures.answer))
+returns c = traces-answered _ _ _ _ _ c.if-out-lt-CHAIN_WORDS.false c.path_chain.ensures.places (out-mapped _ (out-same c.put_answer.ensures c.path_chain.ensures.answer))

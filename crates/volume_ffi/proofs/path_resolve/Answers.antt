@@ -9,4 +9,4 @@ pub returns-then-out-lt-PATH_WORDS : goal.returns-then-out-lt-PATH_WORDS
 returns-then-out-lt-PATH_WORDS c = tells-short _ _ _ _ _ _ _ (traced-text-domain c.args.journal.now c.args.image.now _ _ _ _) c.if-out-lt-PATH_WORDS.true c.short_over.ensures
 
 pub returns : goal.returns
-returns c = tells-answered _ _ _ _ _ _ _ c.if-out-lt-PATH_WORDS.false c.path.ensures.places c.path.ensures.written (out-mapped _ (out-same c.put_path.ensures c.path.ensures.answer))
+returns c = tells-answered _ _ _ _ _ _ _ c.if-out-lt-PATH_WORDS.false c.path.ensures.places c.path.ensures.written (out-mapped _ (out-same c.put_answer.ensures c.path.ensures.answer))

@@ -1,13 +1,13 @@
--- Each answer by its tests.
+-- By what the tests say of the end.
 use mathlib.Core.Path.{sym, ◌∙◌}
-use Rattle.window_numbers.proofs.NumberLaws.{right_end, first-end, other-end}
+use borrow.Author.Tests.{eq-eqb, ne_eqb}
+use Rattle.window_numbers.specs.Numbers.{window_end, wrong_end}
 use Rattle.window_numbers.proofs.wrong_end.Goals as goal
 
 pub returns-then-end-window_end : goal.returns-then-end-window_end
-returns-then-end-window_end c = right_end _ _ _ (c.if-end-window_end.true ∙ c.window_end.ensures)
+unfolding wrong_end
+returns-then-end-window_end c = simp (ne_eqb c.args.end (window_end c.args.start c.args.total) (λ e. c.if-end-window_end.true (e ∙ sym c.window_end.ensures)))
 
-pub returns-then-end-eq0 : goal.returns-then-end-eq0
-returns-then-end-eq0 c = first-end _ _ _ (λ e. c.if-end-window_end.false (e ∙ sym c.window_end.ensures)) c.if-end-eq0.true
-
-pub returns : goal.returns
-returns c = other-end _ _ _ (λ e. c.if-end-window_end.false (e ∙ sym c.window_end.ensures)) c.if-end-eq0.false
+pub returns-else-end-window_end : goal.returns-else-end-window_end
+unfolding wrong_end
+returns-else-end-window_end c = let e = c.if-end-window_end.false in simp (eq-eqb _ _ e, eq-eqb c.args.end (window_end c.args.start c.args.total) (e ∙ c.window_end.ensures))

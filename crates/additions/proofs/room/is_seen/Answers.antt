@@ -1,30 +1,16 @@
-use native.Mathlib.Omega.{arith}
-use Rattle.additions.proofs.AdditionLaws.{looking-start, looking-table, looking-next, looking-found, looking-end}
+-- The table first, and then the entries before.
+use Rattle.entry_slots.proofs.FindLaws.{fields-same}
+use Rattle.additions.proofs.AdditionLaws.{looking-start, looking-table, looking-next, looking-found}
 use Rattle.additions.proofs.room.is_seen.Goals as goal
 
-pub returns-in-At : goal.returns-in-At
-returns-in-At c = looking-table _ _ _ _ c.find.ensures c.in-At.is
+pub returns-then-is_some : goal.returns-then-is_some
+returns-then-is_some g c = looking-table _ _ _ _ c.find.ensures c.is_some.ensures c.if-is_some.true
 
 pub loop-j-init : goal.loop-j-init
-loop-j-init c = looking-start _ _ _ _ c.find.ensures c.in_default.is
+loop-j-init g c = looking-start _ _ _ _ c.find.ensures c.is_some.ensures c.if-is_some.false
 
-pub source_key-requires : goal.source_key-requires
-source_key-requires c = omega arith
-
-pub same_key-requires : goal.same_key-requires
-same_key-requires c = tt
-
-pub returns-then-same_key : goal.returns-then-same_key
-returns-then-same_key c = looking-found c.loop-j.invariant c.loop-j-test.true c.source_key.ensures c.same_key.ensures c.if-same_key.true
-
-pub overflow_add-j : goal.overflow_add-j
-overflow_add-j c = omega arith
-
-pub loop-j-smaller : goal.loop-j-smaller
-loop-j-smaller c = omega arith
+pub returns-then-eq : goal.returns-then-eq
+returns-then-eq g c = looking-found c.loop-j.invariant c.loop-j-test.true c.key.ensures (fields-same _ _ c.eq.ensures) c.if-eq.true
 
 pub loop-j-preserved : goal.loop-j-preserved
-loop-j-preserved c = looking-next c.loop-j.invariant c.loop-j-test.true c.source_key.ensures c.same_key.ensures c.if-same_key.false
-
-pub returns : goal.returns
-returns c = looking-end c.loop-j.invariant c.loop-j-test.false
+loop-j-preserved g c = looking-next c.loop-j.invariant c.loop-j-test.true c.key.ensures (fields-same _ _ c.eq.ensures) c.if-eq.false

@@ -3,4 +3,4 @@ use Rattle.base.proofs.WordLaws.{row_put}
 use Rattle.base.proofs.words.put_row.Goals as goal
 
 pub returns : goal.returns
-returns c = row_put _ _ c.requires c.put_words.ensures
+returns c = row_put _ _ c.requires c.put.ensures

@@ -9,8 +9,8 @@ returns-then-levels-eq0 c = step-deep _ _ _ c.if-levels-eq0.true
 pub returns-then-is_root : goal.returns-then-is_root
 returns-then-is_root c = step-root _ _ _ c.if-levels-eq0.false c.is_root.ensures c.if-is_root.true
 
-pub returns-in-At : goal.returns-in-At
-returns-in-At c = step-found _ _ _ c.if-levels-eq0.false c.is_root.ensures c.if-is_root.false (sym c.in-At.is ∙ c.find.ensures)
+pub returns-in-Some : goal.returns-in-Some
+returns-in-Some c = step-found _ _ _ c.if-levels-eq0.false c.is_root.ensures c.if-is_root.false (sym c.in-Some.is ∙ c.find.ensures)
 
-pub returns-in-Nothing : goal.returns-in-Nothing
-returns-in-Nothing c = step-found _ _ _ c.if-levels-eq0.false c.is_root.ensures c.if-is_root.false (sym c.in-Nothing.is ∙ c.find.ensures)
+pub returns-in-None : goal.returns-in-None
+returns-in-None c = step-found _ _ _ c.if-levels-eq0.false c.is_root.ensures c.if-is_root.false (sym c.in-None.is ∙ c.find.ensures)

@@ -1,6 +1,6 @@
 use mathlib.Core.Path.{◌≡◌, ◌∙◌}
 use native.Mathlib.Omega.{arith}
-use Rattle.base.proofs.ListLaws.{writing_start, writing-skip, writing-room, writing-row}
+use Rattle.base.proofs.ListLaws.{writing-skip, writing-room, writing-row}
 use Rattle.chain.specs.Chain.{source_words}
 use Rattle.chain.proofs.PlaceLaws.{place-row, listed-none, listed-all}
 use Rattle.chain.proofs.WayLaws.{places_count, places-less, places-none}
@@ -9,29 +9,14 @@ use Rattle.chain.proofs.way.list_places.Goals as goal
 pub returns-then-list-names : goal.returns-then-list-names
 returns-then-list-names c = listed-none _ _ (omega (arith, c.if-list-names.true, places_count c.args.slots.now c.args.way.now c.args.names))
 
-pub loop-left-init : goal.loop-left-init
-loop-left-init c = (writing_start _ _ _ _, omega arith)
-
-pub offset_bounds-way-left : goal.offset_bounds-way-left
-offset_bounds-way-left c = omega (arith, c.loop-left.invariant.1, c.requires.short, c.well_formed)
-
-pub bounds-way-left : goal.bounds-way-left
-bounds-way-left c = omega (arith, c.loop-left.invariant.1, c.loop-left-test.true, c.requires.short)
-
-pub info_at-info-requires : goal.info_at-info-requires
-info_at-info-requires c = c.requires.within _ (omega (arith, c.loop-left.invariant.1, c.loop-left-test.true))
-
-pub put_words-requires : goal.put_words-requires
-put_words-requires c = writing-room source_words 3 place-row c.loop-left.invariant.0 (places-less _ _ _ c.loop-left-test.true) (omega (arith, c.if-list-names.false, places_count c.args.slots.now c.args.way.now c.args.names))
+pub put-requires : goal.put-requires
+put-requires c = writing-room source_words 3 place-row c.loop-left.invariant.0 (places-less _ _ _ c.loop-left-test.true) (omega (arith, c.if-list-names.false, places_count c.args.slots.now c.args.way.now c.args.names))
 
 pub overflow_add-i : goal.overflow_add-i
 overflow_add-i c = omega (arith, writing-room source_words 3 place-row c.loop-left.invariant.0 (places-less _ _ _ c.loop-left-test.true) (omega (arith, c.if-list-names.false, places_count c.args.slots.now c.args.way.now c.args.names)), c.well_formed)
 
-pub loop-left-smaller : goal.loop-left-smaller
-loop-left-smaller c = omega arith
-
 pub loop-left-preserved : goal.loop-left-preserved
-loop-left-preserved c = (writing-row source_words 3 place-row c.loop-left.invariant.0 (places-less _ _ _ c.loop-left-test.true) (c.put_words.ensures ∙ rw c.info_at-info.ensures), omega (arith, c.loop-left.invariant.1))
+loop-left-preserved c = (writing-row source_words 3 place-row c.loop-left.invariant.0 (places-less _ _ _ c.loop-left-test.true) (c.put.ensures ∙ rw c.info_at-info.ensures), omega (arith, c.loop-left.invariant.1))
 
 pub returns : goal.returns
 returns c = let none : c.loop-left.left ≡ 0 = omega (arith, c.loop-left-test.false) in

@@ -7,6 +7,3 @@ use Rattle.chain.proofs.way.list_places.Given as goal
 
 abbrev pub invariant-loop-left : goal.invariant-loop-left
 invariant-loop-left l = Writing source_words 3 l.initial.list l.list l.i (way_places l.slots l.way l.left) (way_places l.slots l.way l.names) × (l.left ≤ l.names)
-
-abbrev pub decreases-loop-left : goal.decreases-loop-left
-decreases-loop-left l = l.left

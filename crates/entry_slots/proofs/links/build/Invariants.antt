@@ -5,6 +5,3 @@ use Rattle.entry_slots.proofs.links.build.Given as goal
 
 abbrev pub invariant-loop-i : goal.invariant-loop-i
 invariant-loop-i l = Built l.m (table l.slots l.used) l.initial.nexts l.heads l.nexts l.i
-
-abbrev pub decreases-loop-i : goal.decreases-loop-i
-decreases-loop-i l = l.i

@@ -1,10 +1,8 @@
 use native.Mathlib.Omega.{arith}
+use Rattle.entry_slots.proofs.FindLaws.{fields-same}
 use Rattle.entry_slots.proofs.IndexLaws.{indexed-links}
 use Rattle.entry_slots.proofs.ProbeLaws.{walking-below, walking_start, walking-less, walking-next, walking-hit, walking-last}
 use Rattle.entry_slots.proofs.links.probe_key.Goals as goal
-
-pub hash_of-requires : goal.hash_of-requires
-hash_of-requires c = c.requires.stride_in_bounds.1
 
 pub offset_bounds-heads-hash_of : goal.offset_bounds-heads-hash_of
 offset_bounds-heads-hash_of c =
@@ -21,25 +19,10 @@ loop-link-init c =
     let x = indexed-links _ _ _ c.requires.stride_in_bounds.1 c.requires.indexed in
     walking_start x _ c.hash_of.ensures
 
-pub overflow_sub-i : goal.overflow_sub-i
-overflow_sub-i c = omega arith
-
-pub key_at-requires : goal.key_at-requires
-key_at-requires c = omega (arith, c.loop-link.invariant.within, c.requires.stride_in_bounds.0)
-
-pub same_key-requires : goal.same_key-requires
-same_key-requires c = tt
-
-pub returns-then-same_key : goal.returns-then-same_key
-returns-then-same_key c =
+pub returns-then-eq : goal.returns-then-eq
+returns-then-eq c =
     let x = indexed-links _ _ _ c.requires.stride_in_bounds.1 c.requires.indexed in
-    walking-hit x _ c.requires.stride_in_bounds.2 c.loop-link-test.true c.loop-link.invariant c.key_at.ensures c.same_key.ensures c.if-same_key.true
-
-pub offset_bounds-nexts-i : goal.offset_bounds-nexts-i
-offset_bounds-nexts-i c = omega (arith, c.loop-link.invariant.within, c.requires.stride_in_bounds.2)
-
-pub bounds-nexts-i : goal.bounds-nexts-i
-bounds-nexts-i c = omega (arith, c.loop-link.invariant.within, c.requires.stride_in_bounds.2)
+    walking-hit x _ c.requires.stride_in_bounds.2 c.loop-link-test.true c.loop-link.invariant c.key_at.ensures (fields-same _ _ c.eq.ensures) c.if-eq.true
 
 pub loop-link-smaller : goal.loop-link-smaller
 loop-link-smaller c =
@@ -49,7 +32,7 @@ loop-link-smaller c =
 pub loop-link-preserved : goal.loop-link-preserved
 loop-link-preserved c =
     let x = indexed-links _ _ _ c.requires.stride_in_bounds.1 c.requires.indexed in
-    walking-next x _ c.requires.stride_in_bounds.2 c.loop-link-test.true c.loop-link.invariant c.key_at.ensures c.same_key.ensures c.if-same_key.false
+    walking-next x _ c.requires.stride_in_bounds.2 c.loop-link-test.true c.loop-link.invariant c.key_at.ensures (fields-same _ _ c.eq.ensures) c.if-eq.false
 
 pub returns : goal.returns
 returns c = walking-last c.loop-link.invariant c.loop-link-test.false

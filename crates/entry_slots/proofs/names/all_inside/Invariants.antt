@@ -1,5 +1,4 @@
 -- The invariant: the names passed are inside.
-use Prim.Native.Nat.{◌-◌}
 use Rattle.entry_slots.specs.Names.{lengths, inside}
 use Rattle.entry_slots.specs.Slots.{slot_name}
 use Rattle.entry_slots.proofs.NameLaws.{Passing}
@@ -7,6 +6,3 @@ use Rattle.entry_slots.proofs.names.all_inside.Given as goal
 
 abbrev pub invariant-loop-i : goal.invariant-loop-i
 invariant-loop-i l = Passing (inside (lengths l.journal_length l.image_length)) (slot_name l.slots) l.i l.used
-
-abbrev pub decreases-loop-i : goal.decreases-loop-i
-decreases-loop-i l = l.used - l.i

@@ -4,4 +4,4 @@ use Rattle.entry_slots.proofs.slots.put.Goals as goal
 
 pub returns : goal.returns
 unfolding put_at
-returns c = c.put_words.ensures
+returns c = c.put.ensures

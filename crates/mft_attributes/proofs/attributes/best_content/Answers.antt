@@ -1,35 +1,30 @@
-use native.Mathlib.Omega.{arith}
 use Rattle.mft_sectors.proofs.SectorLaws.{length-restored}
 use Rattle.mft_attributes.proofs.LieLaws.{content-inside}
 use Rattle.mft_attributes.proofs.FilenameLaws.{keeping_start, keeping_none, keeping-end, keeping-other, keeping-named}
 use Rattle.mft_attributes.proofs.attributes.best_content.Goals as goal
+use Rattle.mft_attributes.proofs.attributes.best_content.Goals.{in-Other, in-Named}
 
-pub loop-left-init : goal.loop-left-init
-loop-left-init c = keeping_start _ _ _ (rw length-restored (omega arith))
+pub loop-init : goal.loop-init
+loop-init c = record { keeping = keeping_start _ _ _; inside = tt }
 
-pub overflow_sub-left : goal.overflow_sub-left
-overflow_sub-left c = omega arith
+pub returns-in-End-clause-kept : goal.returns-in-End-clause-kept
+returns-in-End-clause-kept c = keeping-end c.loop.invariant.keeping c.loop-test.true c.in-End.is c.attribute_step.ensures
 
-pub attribute_step-requires : goal.attribute_step-requires
-attribute_step-requires c = tt
+pub better-requires-clause-content_in : goal.better-requires-clause-content_in
+better-requires-clause-content_in c = rw length-restored at (content-inside _ _ c.in-Named.is c.attribute_step.ensures)
 
-pub returns-in-End : goal.returns-in-End
-returns-in-End c = keeping-end c.loop-left.invariant c.loop-left-test.true c.in-End.is c.attribute_step.ensures
+pub loop-preserved : goal.loop-preserved
+loop-preserved c =
+    elim c.match-attribute_step.branch [
+      | in-Other w ↦ rw (w.best-is, w.a-is) (record {
+        keeping = keeping-other c.loop.invariant.keeping c.loop-test.true w.in-Other.is c.attribute_step.ensures;
+        inside = c.loop.invariant.inside;
+      })
+      | in-Named w ↦ rw (w.best-is, w.a-is) (record {
+        keeping = keeping-named c.loop.invariant.keeping c.loop-test.true w.in-Named.is c.attribute_step.ensures w.better.ensures.better;
+        inside = w.better.ensures.inside;
+      })
+    ]
 
-pub loop-left-smaller-in-Other : goal.loop-left-smaller-in-Other
-loop-left-smaller-in-Other c = omega arith
-
-pub loop-left-preserved-in-Other : goal.loop-left-preserved-in-Other
-loop-left-preserved-in-Other c = keeping-other c.loop-left.invariant c.loop-left-test.true c.in-Other.is c.attribute_step.ensures
-
-pub better-best-requires : goal.better-best-requires
-better-best-requires c = let h = content-inside _ _ c.in-Named.is c.attribute_step.ensures in rw length-restored at h
-
-pub loop-left-smaller : goal.loop-left-smaller
-loop-left-smaller c = omega arith
-
-pub loop-left-preserved : goal.loop-left-preserved
-loop-left-preserved c = keeping-named c.loop-left.invariant c.loop-left-test.true c.in-Named.is c.attribute_step.ensures c.better-best.ensures
-
-pub returns : goal.returns
-returns c = keeping_none c.loop-left.invariant c.loop-left-test.false
+pub returns-clause-kept : goal.returns-clause-kept
+returns-clause-kept c = keeping_none c.loop.invariant.keeping c.loop-test.false

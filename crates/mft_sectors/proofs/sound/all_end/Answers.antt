@@ -1,34 +1,14 @@
-use mathlib.Core.Path.{refl, sym, ◌∙◌}
-use native.Mathlib.Omega.{arith}
-use Rattle.mft_sectors.proofs.SectorLaws.{ending-none, ending-next, ending-not}
+-- Each sector in turn.
+use Rattle.std.proofs.Common.{◌+◌, ◌*◌, ◌∙◌, refl, arith, rules, tests}
+use lib.Dec.{eqb}
+use Rattle.std.proofs.lemmas.Iterator.{YieldsList-from_range}
+use Rattle.std.proofs.lemmas.Iterator.Search.{all_from_yields_List}
+use Rattle.usn_record.specs.Bytes.{le_at}
+use Rattle.mft_sectors.specs.SectorEnds.{sector, body}
+use Rattle.mft_sectors.proofs.SectorLaws.{ending-all}
 use Rattle.mft_sectors.proofs.sound.all_end.Goals as goal
 
-pub loop-k-init : goal.loop-k-init
-loop-k-init c = (refl, omega arith)
-
-pub overflow_sub-end : goal.overflow_sub-end
-overflow_sub-end c = omega arith
-
-pub overflow_mul-end : goal.overflow_mul-end
-overflow_mul-end c = omega arith
-
-pub overflow_add-end : goal.overflow_add-end
-overflow_add-end c = omega arith
-
-pub le_u16-requires : goal.le_u16-requires
-le_u16-requires c = tt
-
-pub returns-then-le_u16-value : goal.returns-then-le_u16-value
-returns-then-le_u16-value c = sym (sym c.loop-k.invariant.0 ∙ ending-not _ _ _ (omega (arith, c.loop-k-test.true)) c.le_u16.ensures c.if-le_u16-value.true)
-
-pub overflow_sub-k : goal.overflow_sub-k
-overflow_sub-k c = omega arith
-
-pub loop-k-smaller : goal.loop-k-smaller
-loop-k-smaller c = omega arith
-
-pub loop-k-preserved : goal.loop-k-preserved
-loop-k-preserved c = (sym (ending-next _ _ _ (omega (arith, c.loop-k-test.true)) c.le_u16.ensures c.if-le_u16-value.false) ∙ c.loop-k.invariant.0, omega arith)
-
 pub returns : goal.returns
-returns c = ending-none _ _ _ c.loop-k-test.false ∙ c.loop-k.invariant.0
+returns c =
+    all_from_yields_List (λ k. eqb (le_at 2 c.args.entry.now (sector * k + body)) c.args.value) _ _ _ c.all.ensures.ran (YieldsList-from_range 0 _ _ refl (omega arith)) (λ x b q k. search (rules, tests))
+    ∙ ending-all _ _ _

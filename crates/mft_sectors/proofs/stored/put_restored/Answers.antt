@@ -1,7 +1,6 @@
 -- The entry around the place lies in the image, and what is copied of it is what the place is decoded from.
 use native.Mathlib.Omega.{arith}
-use Rattle.mft_sectors.proofs.StoredLaws.{start-before, inside-says}
-use Rattle.mft_sectors.proofs.CopyLaws.{ends-lent, restored-put}
+use Rattle.mft_sectors.proofs.StoredLaws.{start-before, inside-says, ends-lent, copied, restored-put}
 use Rattle.mft_sectors.proofs.stored.put_restored.Goals as goal
 
 pub overflow_mul-start : goal.overflow_mul-start
@@ -10,14 +9,13 @@ overflow_mul-start c = omega (arith, start-before c.args.size c.args.place.offse
 pub overflow_add-end : goal.overflow_add-end
 overflow_add-end c = omega (arith, (inside-says c.args.size c.args.image.now c.args.place c.requires.1).whole)
 
-pub slice_bounds-entry-end : goal.slice_bounds-entry-end
-slice_bounds-entry-end c = omega (arith, (inside-says c.args.size c.args.image.now c.args.place c.requires.1).whole)
+pub slice_bounds-of-end : goal.slice_bounds-of-end
+slice_bounds-of-end c = omega (arith, (inside-says c.args.size c.args.image.now c.args.place c.requires.1).whole)
 
-pub overflow_sub-place : goal.overflow_sub-place
-overflow_sub-place c = omega (arith, start-before c.args.size c.args.place.offset)
-
-pub copy_restored-requires : goal.copy_restored-requires
-copy_restored-requires c = (ends-lent c.args.size c.args.image.now c.args.place c.requires.1, c.requires.2)
+pub overflow_sub-from : goal.overflow_sub-from
+overflow_sub-from c = omega (arith, start-before c.args.size c.args.place.offset)
 
 pub returns : goal.returns
-returns c = restored-put c.args.size c.args.image.now c.args.place c.requires.1 _ c.le_u16.ensures c.copy_restored.ensures
+returns c =
+    restored-put c.args.size c.args.image.now c.args.place c.requires.1 _ c.of-entry.ensures
+    (copied _ _ _ _ _ (ends-lent c.args.size c.args.image.now c.args.place c.requires.1 c.of-entry.ensures) c.requires.2 c.loop-k.auto.byte-items c.loop-k-test.false c.loop-k.invariant)

@@ -11,38 +11,14 @@ use Rattle.path.proofs.ways.bytes_fit.Goals as goal
 pub returns-then-room-ending : goal.returns-then-room-ending
 returns-then-room-ending c = fits_not (length (path_text c.args.journal.now c.args.image.now (chain_by c.args.slots.now c.args.way.now c.args.up))) c.args.room (omega (arith, c.if-room-ending.true, c.end_length-ending.ensures.0, path-long c.args.journal.now c.args.image.now (chain_by c.args.slots.now c.args.way.now c.args.up)))
 
-pub loop-left-init : goal.loop-left-init
-loop-left-init c = (omega (arith, c.if-room-ending.false), (omega arith, omega arith))
-
-pub offset_bounds-way-left : goal.offset_bounds-way-left
-offset_bounds-way-left c = omega (arith, c.loop-left.invariant.1.0, c.requires.slots.short, c.well_formed)
-
-pub bounds-way-left : goal.bounds-way-left
-bounds-way-left c = omega (arith, c.loop-left.invariant.1.0, c.loop-left-test.true, c.requires.slots.short)
-
-pub info_at-info-requires : goal.info_at-info-requires
-info_at-info-requires c = c.requires.slots.within _ (omega (arith, c.loop-left.invariant.1.0, c.loop-left-test.true))
-
 pub returns-then-spare-name : goal.returns-then-spare-name
-returns-then-spare-name c = fits_not (length (path_text c.args.journal.now c.args.image.now (chain_by c.args.slots.now c.args.way.now c.args.up))) c.args.room (omega (arith, c.if-spare-name.true, c.loop-left.invariant.0, c.end_length-ending.ensures.0, path-long c.args.journal.now c.args.image.now (chain_by c.args.slots.now c.args.way.now c.args.up), bytes-less c.args.slots.now c.args.way.now c.loop-left.left c.loop-left-test.true c.args.journal.now c.args.image.now, ap (λ (e : EntryInfo). length (place_text c.args.journal.now c.args.image.now e.name)) c.info_at-info.ensures, place-least c.args.journal.now c.args.image.now c.info_at-info.result.name))
-
-pub place_length-bytes-requires : goal.place_length-bytes-requires
-place_length-bytes-requires c = rw c.info_at-info.ensures (c.requires.insides _ (omega (arith, c.loop-left.invariant.1.0, c.loop-left-test.true)))
+returns-then-spare-name c = fits_not (length (path_text c.args.journal.now c.args.image.now (chain_by c.args.slots.now c.args.way.now c.args.up))) c.args.room (omega (arith, c.if-spare-name.true, c.loop-left.invariant.0, c.end_length-ending.ensures.0, path-long c.args.journal.now c.args.image.now (chain_by c.args.slots.now c.args.way.now c.args.up), bytes-less c.args.slots.now c.args.way.now c.loop-left.left c.loop-left-test.true c.args.journal.now c.args.image.now, ap (λ (e : EntryInfo). length (place_text c.args.journal.now c.args.image.now e.name)) c.info_at.ensures, place-least c.args.journal.now c.args.image.now c.info_at.result.name))
 
 pub returns-then-spare-bytes : goal.returns-then-spare-bytes
-returns-then-spare-bytes c = fits_not (length (path_text c.args.journal.now c.args.image.now (chain_by c.args.slots.now c.args.way.now c.args.up))) c.args.room (omega (arith, c.if-spare-bytes.true, c.place_length-bytes.ensures, c.loop-left.invariant.0, c.end_length-ending.ensures.0, path-long c.args.journal.now c.args.image.now (chain_by c.args.slots.now c.args.way.now c.args.up), bytes-less c.args.slots.now c.args.way.now c.loop-left.left c.loop-left-test.true c.args.journal.now c.args.image.now, ap (λ (e : EntryInfo). length (place_text c.args.journal.now c.args.image.now e.name)) c.info_at-info.ensures))
-
-pub overflow_add-spare : goal.overflow_add-spare
-overflow_add-spare c = omega (arith, c.if-spare-bytes.false, c.loop-left.invariant.1.1)
-
-pub overflow_sub-spare-in-loop-left : goal.overflow_sub-spare-in-loop-left
-overflow_sub-spare-in-loop-left c = omega (arith, c.if-spare-bytes.false)
-
-pub loop-left-smaller : goal.loop-left-smaller
-loop-left-smaller c = omega (arith, c.loop-left-test.true)
+returns-then-spare-bytes c = fits_not (length (path_text c.args.journal.now c.args.image.now (chain_by c.args.slots.now c.args.way.now c.args.up))) c.args.room (omega (arith, c.if-spare-bytes.true, c.place_length-bytes.ensures, c.loop-left.invariant.0, c.end_length-ending.ensures.0, path-long c.args.journal.now c.args.image.now (chain_by c.args.slots.now c.args.way.now c.args.up), bytes-less c.args.slots.now c.args.way.now c.loop-left.left c.loop-left-test.true c.args.journal.now c.args.image.now, ap (λ (e : EntryInfo). length (place_text c.args.journal.now c.args.image.now e.name)) c.info_at.ensures))
 
 pub loop-left-preserved : goal.loop-left-preserved
-loop-left-preserved c = (omega (arith, c.if-spare-bytes.false, c.place_length-bytes.ensures, c.loop-left.invariant.0, bytes-less c.args.slots.now c.args.way.now c.loop-left.left c.loop-left-test.true c.args.journal.now c.args.image.now, ap (λ (e : EntryInfo). length (place_text c.args.journal.now c.args.image.now e.name)) c.info_at-info.ensures), (omega (arith, c.loop-left.invariant.1.0), omega (arith, c.loop-left.invariant.1.1)))
+loop-left-preserved c = (omega (arith, c.if-spare-bytes.false, c.place_length-bytes.ensures, c.loop-left.invariant.0, bytes-less c.args.slots.now c.args.way.now c.loop-left.left c.loop-left-test.true c.args.journal.now c.args.image.now, ap (λ (e : EntryInfo). length (place_text c.args.journal.now c.args.image.now e.name)) c.info_at.ensures), (omega (arith, c.loop-left.invariant.1.0), omega (arith, c.loop-left.invariant.1.1)))
 
 pub returns : goal.returns
 returns c = fits-so (length (path_text c.args.journal.now c.args.image.now (chain_by c.args.slots.now c.args.way.now c.args.up))) c.args.room (omega (arith, c.loop-left.invariant.0, c.end_length-ending.ensures.0, path-long c.args.journal.now c.args.image.now (chain_by c.args.slots.now c.args.way.now c.args.up), ap length (text-none c.args.slots.now c.args.way.now c.args.journal.now c.args.image.now {n = c.loop-left.left} (omega (arith, c.loop-left-test.false)))))

@@ -8,6 +8,3 @@ use Rattle.path.proofs.ways.bytes_fit.Given as goal
 
 abbrev pub invariant-loop-left : goal.invariant-loop-left
 invariant-loop-left l = (l.ending + length (names_text l.journal l.image (way_places l.slots l.way l.initial.left)) + l.spare ≡ length (names_text l.journal l.image (way_places l.slots l.way l.left)) + l.room) × ((l.left ≤ l.initial.left) × (l.spare ≤ l.room))
-
-abbrev pub decreases-loop-left : goal.decreases-loop-left
-decreases-loop-left l = l.left

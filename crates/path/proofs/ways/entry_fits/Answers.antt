@@ -12,14 +12,14 @@ use Rattle.path.proofs.BoundLaws.{fits-so, fits_not, fits-less, step-enough, pat
 use Rattle.path.proofs.ways.entry_fits.Goals as goal
 
 pub returns-then-surely_fits : goal.returns-then-surely_fits
-returns-then-surely_fits c = let w : Sources c.args.journal.now c.args.image.now = record { journal_long = c.requires.way_asks.near-journal; image_long = c.requires.way_asks.near-image; journal_bytes = λ i. omega (arith, c.shared_slice_known-1.given i); image_bytes = λ i. omega (arith, c.shared_slice_known-2-1.given i) } in
+returns-then-surely_fits c = let w : Sources c.args.journal.now c.args.image.now = record { journal_long = c.requires.way_asks.near-journal; image_long = c.requires.way_asks.near-image; journal_bytes = λ i. omega (arith, c.type_inv.journal i); image_bytes = λ i. omega (arith, c.type_inv.image i) } in
     fits-so (length (entry_text c.args.journal.now c.args.image.now (chain_by c.args.slots.now c.args.way.now c.args.up) c.args.name)) c.args.room (omega (arith, leb-true (length (end_text c.args.up.end) + c.args.up.bound) (c.args.room - c.step_bound-most.result) (sym c.surely_fits.ensures ∙ c.if-surely_fits.true), c.if-most-room.true, c.step_bound-most.ensures.0, path-enough c.args.journal.now c.args.image.now w c.args.slots.now c.args.way.now c.args.up c.requires.way_asks, entry-long c.args.journal.now c.args.image.now (chain_by c.args.slots.now c.args.way.now c.args.up) c.args.name, step-enough c.args.journal.now c.args.image.now w c.args.name c.requires.name_value, step-long c.args.journal.now c.args.image.now c.args.name))
 
 pub returns-then-room-name : goal.returns-then-room-name
 returns-then-room-name c = fits_not (length (entry_text c.args.journal.now c.args.image.now (chain_by c.args.slots.now c.args.way.now c.args.up) c.args.name)) c.args.room (omega (arith, c.if-room-name.true, entry-long c.args.journal.now c.args.image.now (chain_by c.args.slots.now c.args.way.now c.args.up) c.args.name, place-least c.args.journal.now c.args.image.now c.args.name))
 
 pub overflow_add-own : goal.overflow_add-own
-overflow_add-own c = let w : Sources c.args.journal.now c.args.image.now = record { journal_long = c.requires.way_asks.near-journal; image_long = c.requires.way_asks.near-image; journal_bytes = λ i. omega (arith, c.shared_slice_known-1.given i); image_bytes = λ i. omega (arith, c.shared_slice_known-2-1.given i) } in
+overflow_add-own c = let w : Sources c.args.journal.now c.args.image.now = record { journal_long = c.requires.way_asks.near-journal; image_long = c.requires.way_asks.near-image; journal_bytes = λ i. omega (arith, c.type_inv.journal i); image_bytes = λ i. omega (arith, c.type_inv.image i) } in
     omega (arith, c.place_length-own.ensures, step-long c.args.journal.now c.args.image.now c.args.name, step-most c.args.journal.now c.args.image.now c.args.name w c.requires.name_value)
 
 pub returns-then-room-own : goal.returns-then-room-own

@@ -4,11 +4,8 @@ use Rattle.path_text.specs.Text.{path_text, step_text}
 use Rattle.path_text.proofs.MarkerLaws.{first-room, second-room, both-put}
 use Rattle.path.specs.Ways.{entry_text}
 use Rattle.path.proofs.BoundLaws.{entry-parts}
-use Rattle.path.proofs.WayLaws.{behind-full, behind-room, behind-put}
+use Rattle.path.proofs.WayLaws.{behind-room, behind-put}
 use Rattle.path.proofs.ways.put_behind.Goals as goal
-
-pub returns-then-not-entry_fits : goal.returns-then-not-entry_fits
-returns-then-not-entry_fits c = behind-full (entry_text c.args.journal.now c.args.image.now (chain_by c.args.slots.now c.args.way.now c.args.up) c.args.name) c.args.text.now c.args.at c.entry_fits.ensures c.if-not-entry_fits.true
 
 pub put_way-above-requires : goal.put_way-above-requires
 put_way-above-requires c = record { way_asks = c.requires.way_asks; up_in_bounds = first-room c.args.text.now c.args.at (path_text c.args.journal.now c.args.image.now (chain_by c.args.slots.now c.args.way.now c.args.up)) (step_text c.args.journal.now c.args.image.now c.args.name) (entry-parts c.args.journal.now c.args.image.now (chain_by c.args.slots.now c.args.way.now c.args.up) c.args.name) (behind-room (entry_text c.args.journal.now c.args.image.now (chain_by c.args.slots.now c.args.way.now c.args.up) c.args.name) c.args.text.now c.args.at c.entry_fits.ensures c.if-not-entry_fits.false c.requires.name_value.1) }

@@ -1,5 +1,5 @@
 use Prim.Native.Nat.{◌-◌}
-use mathlib.Core.Path.{refl, ap}
+use mathlib.Core.Path.{ap}
 use native.Mathlib.Omega.{arith}
 use lib.ListN.{length, get_or}
 use lib.Seq.{length-sets}
@@ -14,23 +14,8 @@ use Rattle.path.proofs.ways.put_way.Goals as goal
 pub put_end-to-requires : goal.put_end-to-requires
 put_end-to-requires c = omega (arith, c.requires.up_in_bounds, path-long c.args.journal.now c.args.image.now (chain_by c.args.slots.now c.args.way.now c.args.up))
 
-pub loop-left-init : goal.loop-left-init
-loop-left-init c = (record { ends = refl; same = refl; count = refl }, omega arith)
-
-pub offset_bounds-way-left : goal.offset_bounds-way-left
-offset_bounds-way-left c = omega (arith, c.loop-left.invariant.1, c.requires.way_asks.slots.short, c.well_formed)
-
-pub bounds-way-left : goal.bounds-way-left
-bounds-way-left c = omega (arith, c.loop-left.invariant.1, c.loop-left-test.true, c.requires.way_asks.slots.short)
-
-pub info_at-info-requires : goal.info_at-info-requires
-info_at-info-requires c = c.requires.way_asks.slots.within _ (omega (arith, c.loop-left.invariant.1, c.loop-left-test.true))
-
 pub put_step-to-requires : goal.put_step-to-requires
 put_step-to-requires c = record { place_value = rw c.info_at-info.ensures (c.requires.way_asks.insides _ (omega (arith, c.loop-left.invariant.1, c.loop-left-test.true))); place_in_bounds = rw c.info_at-info.ensures (way-text-room c.loop-left.invariant.0 (step_text c.args.journal.now c.args.image.now (slot_name c.args.slots.now (get_or c.args.way.now (c.loop-left.left - 1) 0))) (names_text c.args.journal.now c.args.image.now (way_places c.args.slots.now c.args.way.now (c.loop-left.left - 1))) (text-less c.args.slots.now c.args.way.now c.loop-left.left c.loop-left-test.true c.args.journal.now c.args.image.now) (omega (arith, c.requires.up_in_bounds, path-long c.args.journal.now c.args.image.now (chain_by c.args.slots.now c.args.way.now c.args.up), c.put_end-to.ensures.value, ap length c.put_end-to.ensures.text_after, length-sets c.args.text.now c.args.at (end_text c.args.up.end)))) }
-
-pub loop-left-smaller : goal.loop-left-smaller
-loop-left-smaller c = omega (arith, c.loop-left-test.true)
 
 pub loop-left-preserved : goal.loop-left-preserved
 loop-left-preserved c = (way-text-more c.loop-left.invariant.0 (step_text c.args.journal.now c.args.image.now (slot_name c.args.slots.now (get_or c.args.way.now (c.loop-left.left - 1) 0))) (names_text c.args.journal.now c.args.image.now (way_places c.args.slots.now c.args.way.now (c.loop-left.left - 1))) (text-less c.args.slots.now c.args.way.now c.loop-left.left c.loop-left-test.true c.args.journal.now c.args.image.now) (rw c.info_at-info.ensures at c.put_step-to.ensures), omega (arith, c.loop-left.invariant.1))

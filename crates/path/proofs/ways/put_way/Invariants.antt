@@ -7,6 +7,3 @@ use Rattle.path.proofs.ways.put_way.Given as goal
 
 abbrev pub invariant-loop-left : goal.invariant-loop-left
 invariant-loop-left l = WayText l.initial.text l.text l.initial.to l.to (names_text l.journal l.image (way_places l.slots l.way l.left)) (names_text l.journal l.image (way_places l.slots l.way l.initial.left)) × (l.left ≤ l.initial.left)
-
-abbrev pub decreases-loop-left : goal.decreases-loop-left
-decreases-loop-left l = l.left

@@ -5,12 +5,6 @@ use lib.ListN.{length}
 use Rattle.path_text.proofs.MarkerLaws.{end-root, unknown-long, unresolved-long}
 use Rattle.path_text.proofs.text.end_length.Goals as goal
 
-pub overflow_add-result : goal.overflow_add-result
-overflow_add-result c = omega (arith, c.key_length.ensures.1)
-
-pub overflow_add-result-in-Unresolved : goal.overflow_add-result-in-Unresolved
-overflow_add-result-in-Unresolved c = omega (arith, c.key_length-in-Unresolved.ensures.1)
-
 pub returns-in-Root : goal.returns-in-Root
 returns-in-Root c = (sym (ap length (end-root c.in-Root.is)), omega arith)
 

@@ -1,32 +1,13 @@
-use mathlib.Core.Path.{refl}
-use native.Mathlib.Omega.{arith}
 use Rattle.entry_slots.proofs.NameLaws.{passing-start, passing-row, passing-outside, passing-end}
 use Rattle.rewind_records.proofs.RecordLaws.{records-test}
+use mathlib.Core.Path.{refl}
 use Rattle.rewind_records.proofs.turn.all_records.Goals as goal
 
 pub loop-i-init : goal.loop-i-init
 loop-i-init c = passing-start _ _ _
 
-pub overflow_mul-i : goal.overflow_mul-i
-overflow_mul-i c = omega arith
-
-pub offset_bounds-records-i : goal.offset_bounds-records-i
-offset_bounds-records-i c = omega arith
-
-pub bounds-records-i : goal.bounds-records-i
-bounds-records-i c = omega arith
-
-pub is_record-requires : goal.is_record-requires
-is_record-requires c = tt
-
 pub returns-then-not-is_record : goal.returns-then-not-is_record
 returns-then-not-is_record c = records-test c.args.journal.now c.args.records.now (passing-outside c.loop-i.invariant c.loop-i-test.true refl c.is_record.ensures c.if-not-is_record.true)
-
-pub overflow_add-i : goal.overflow_add-i
-overflow_add-i c = omega arith
-
-pub loop-i-smaller : goal.loop-i-smaller
-loop-i-smaller c = omega arith
 
 pub loop-i-preserved : goal.loop-i-preserved
 loop-i-preserved c = passing-row c.loop-i.invariant c.loop-i-test.true refl c.is_record.ensures c.if-not-is_record.false

@@ -2,5 +2,5 @@
 use Rattle.usn_lines.proofs.PathLaws.{none-ran}
 use Rattle.usn_lines.proofs.next_path.run_or.Goals as goal
 
-pub returns-in-Refused : goal.returns-in-Refused
-returns-in-Refused c = none-ran _ c.in-Refused.is
+pub returns-in-Err : goal.returns-in-Err
+returns-in-Err c = none-ran _ c.in-Err.is

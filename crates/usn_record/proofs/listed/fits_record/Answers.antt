@@ -1,10 +1,12 @@
 -- The two tests, one after the other.
-use native.Mathlib.Omega.{arith}
-use Rattle.usn_record.proofs.TestLaws.{fits_below, fits-from}
+use borrow.Author.Tests.{le-leb, lt-leb}
+use Rattle.usn_record.specs.Record.{fits_record}
 use Rattle.usn_record.proofs.listed.fits_record.Goals as goal
 
-pub returns-then-length-fixed : goal.returns-then-length-fixed
-returns-then-length-fixed c = fits_below _ _ (omega arith)
+pub returns-then-fixed-length : goal.returns-then-fixed-length
+unfolding fits_record
+returns-then-fixed-length c = simp (le-leb _ _ c.if-fixed-length.true)
 
-pub returns : goal.returns
-returns c = fits-from _ _ (omega arith)
+pub returns-else-fixed-length : goal.returns-else-fixed-length
+unfolding fits_record
+returns-else-fixed-length c = simp (lt-leb _ _ c.if-fixed-length.false)

@@ -23,4 +23,4 @@ pub returns-in-3 : goal.returns-in-3
 returns-in-3 c = fits-tested v3 v3-inside _ _ c.le_u32-length.ensures (omega arith) c.fits_record-in-3.ensures (listed-v3 _ _ (omega arith) c.le_u32-length.ensures (omega arith) c.le_u16-version.ensures refl c.in-3.is refl)
 
 pub returns-in_default : goal.returns-in_default
-returns-in_default c = ap is_answered (listed-other _ _ (omega arith) c.le_u32-length.ensures (omega arith) c.le_u16-version.ensures c.in_default.in_default-own.rest.0.1 c.in_default.in_default-own.rest.1)
+returns-in_default c = ap is_answered (listed-other _ _ (omega arith) c.le_u32-length.ensures (omega arith) c.le_u16-version.ensures (λ e. omega arith) (λ e. omega arith))

@@ -10,8 +10,8 @@ returns-then-limit-at c = zeros-none _ _ c.requires.upto
 pub slice_bounds-skip_zeros-end : goal.slice_bounds-skip_zeros-end
 slice_bounds-skip_zeros-end c = window-length _ _ c.requires
 
-pub overflow_add-next : goal.overflow_add-next
-overflow_add-next c = omega (arith, zeros-inside _ _ c.requires (omega arith) c.skip_zeros-past.ensures, c.requires.small, c.requires.inside, c.requires.starts)
+pub overflow_add-result : goal.overflow_add-result
+overflow_add-result c = omega (arith, zeros-inside _ _ c.requires (omega arith) c.skip_zeros-past.ensures, c.requires.small, c.requires.inside, c.requires.starts)
 
 pub returns : goal.returns
 returns c = zeros-search _ _ c.requires (omega arith) c.skip_zeros-past.ensures refl

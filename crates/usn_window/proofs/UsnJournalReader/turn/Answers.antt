@@ -32,13 +32,13 @@ pub returns-then-self-n : goal.returns-then-self-n
 returns-then-self-n c = turn-past _ _ (omega arith) c.le_u32-n.ensures (omega arith) (omega arith) (omega arith) (omega arith) c.refill-then-self-n.ensures c.or_end-then-self-n.ensures
 
 pub named_from-requires : goal.named_from-requires
-named_from-requires c = omega (arith, c.requires.small, c.requires.inside, c.requires.upto, name-near _ _ _ c.le_u32-n.ensures c.listed_record.ensures c.in-Record.is)
+named_from-requires c = omega (arith, c.requires.small, c.requires.inside, c.requires.upto, name-near _ _ _ c.le_u32-n.ensures c.listed_record.ensures c.in-Ok.is)
 
 pub advance-requires : goal.advance-requires
 advance-requires c = omega (arith, c.requires.small, c.requires.inside, c.requires.upto)
 
-pub returns-in-Record : goal.returns-in-Record
-returns-in-Record c = turn-record _ _ (omega arith) c.le_u32-n.ensures (omega arith) (omega arith) (omega arith) _ c.listed_record.ensures c.in-Record.is c.named_from.ensures c.advance.ensures
+pub returns-in-Ok : goal.returns-in-Ok
+returns-in-Ok c = turn-record _ _ (omega arith) c.le_u32-n.ensures (omega arith) (omega arith) (omega arith) _ c.listed_record.ensures c.in-Ok.is c.named_from.ensures c.advance.ensures
 
-pub returns-in-Refused : goal.returns-in-Refused
-returns-in-Refused c = turn-rejected _ _ (omega arith) c.le_u32-n.ensures (omega arith) (omega arith) (omega arith) _ c.listed_record.ensures c.in-Refused.is c.advance-in-Refused.ensures
+pub returns-in-Err : goal.returns-in-Err
+returns-in-Err c = turn-rejected _ _ (omega arith) c.le_u32-n.ensures (omega arith) (omega arith) (omega arith) _ c.listed_record.ensures c.in-Err.is c.advance-in-Err.ensures

@@ -3,4 +3,4 @@ use Rattle.usn_window.proofs.TurnLaws.{renamed}
 use Rattle.usn_window.proofs.turn.named_from.Goals as goal
 
 pub returns : goal.returns
-returns c = renamed _ _ c.place_from-name.ensures
+returns c = renamed _ _ c.place_from-r.ensures

@@ -1,18 +1,11 @@
 -- Each way out by the units read.
 use mathlib.Core.Path.{sym, ◌∙◌}
 use native.Mathlib.Omega.{arith}
-use Rattle.utf16.proofs.Utf16Laws.{pair-units}
 use Rattle.utf16.proofs.FirstLaws.{first-last, first_alone, first-pair}
 use Rattle.utf16.proofs.code_point.first_code_point.Goals as goal
 
 pub returns-then-n-lt2 : goal.returns-then-n-lt2
 returns-then-n-lt2 c = first-last _ _ _ c.le_u16-u.ensures (omega arith) c.if-n-lt2.true (omega arith) c.unpaired.ensures
-
-pub overflow_sub-result : goal.overflow_sub-result
-overflow_sub-result c = omega (arith, pair-units c.le_u16-u.result c.le_u16-v.result (sym c.is_pair.ensures ∙ c.if-is_pair.true))
-
-pub overflow_sub-result-then-is_pair : goal.overflow_sub-result-then-is_pair
-overflow_sub-result-then-is_pair c = omega (arith, pair-units c.le_u16-u.result c.le_u16-v.result (sym c.is_pair.ensures ∙ c.if-is_pair.true))
 
 pub returns-then-is_pair : goal.returns-then-is_pair
 returns-then-is_pair c = first-pair _ _ _ c.le_u16-u.ensures c.if-n-lt2.false c.le_u16-v.ensures (sym c.is_pair.ensures ∙ c.if-is_pair.true)

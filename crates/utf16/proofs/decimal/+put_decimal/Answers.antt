@@ -9,9 +9,6 @@ use Rattle.utf16.proofs.decimal.+put_decimal.Goals as goal
 pub bounds-text-at : goal.bounds-text-at
 bounds-text-at t c = omega (arith, ap length (decimal-one _ c.if-n-lt10.true))
 
-pub overflow_add-result : goal.overflow_add-result
-overflow_add-result t c = omega (arith, ap length (decimal-one _ c.if-n-lt10.true))
-
 pub returns-then-n-lt10 : goal.returns-then-n-lt10
 returns-then-n-lt10 t c = put_as _ _ (decimal-one _ c.if-n-lt10.true) (record { value = refl; text_after = refl })
 

@@ -1,8 +1,0 @@
--- A byte before the first sector's end.
-use mathlib.Core.Path.{◌∙◌}
-use native.Mathlib.Omega.{arith}
-use Rattle.mft_sectors.proofs.SectorLaws.{read-body}
-use Rattle.mft_sectors.proofs.reads.restored_byte.Goals as goal
-
-pub returns-then-offset-lt-BODY : goal.returns-then-offset-lt-BODY
-returns-then-offset-lt-BODY c = c.byte_at.ensures ∙ read-body _ _ 1 _ (omega arith)

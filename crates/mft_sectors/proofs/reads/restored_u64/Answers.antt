@@ -1,8 +1,0 @@
--- A read that ends before the first sector's end.
-use mathlib.Core.Path.{◌∙◌}
-use native.Mathlib.Omega.{arith}
-use Rattle.mft_sectors.proofs.SectorLaws.{read-body}
-use Rattle.mft_sectors.proofs.reads.restored_u64.Goals as goal
-
-pub returns-then-offset : goal.returns-then-offset
-returns-then-offset c = c.le_u64.ensures ∙ read-body _ _ 8 _ (omega arith)

@@ -1,5 +1,0 @@
--- Each call has a tenth of the number.
-use Rattle.utf16.proofs.decimal.+decimal_length.Given as goal
-
-abbrev pub decreases-decimal_length : goal.decreases-decimal_length
-decreases-decimal_length l = l.n
