@@ -133,51 +133,28 @@ fn call<'a, W: Write>(
         }
         Kind::Image => {
             return Ok(Program {
-                journal,
                 image: bytes,
-                used,
+                ..program
             });
         }
         Kind::Insert => {
-            let answer = entry_table::insert(
-                journal,
-                image,
-                slots,
-                used,
-                paths::key_in(bytes),
-                paths::info_in(bytes),
-            );
+            let key = paths::key_in(bytes);
+            let info = paths::info_in(bytes);
+            let answer = entry_table::insert(journal, image, slots, used, key, info);
             let used = paths::stored(out, answer, used)?;
-            return Ok(Program {
-                journal,
-                image,
-                used,
-            });
+            return Ok(Program { used, ..program });
         }
         Kind::InsertIfAbsent => {
-            let answer = entry_table::insert_if_absent(
-                journal,
-                image,
-                slots,
-                used,
-                paths::key_in(bytes),
-                paths::info_in(bytes),
-            );
+            let key = paths::key_in(bytes);
+            let info = paths::info_in(bytes);
+            let answer = entry_table::insert_if_absent(journal, image, slots, used, key, info);
             let used = paths::stored(out, answer, used)?;
-            return Ok(Program {
-                journal,
-                image,
-                used,
-            });
+            return Ok(Program { used, ..program });
         }
         Kind::Seed => {
             let answer = paths::seed(journal, image, bytes, used, slots);
             let used = paths::stored(out, answer, used)?;
-            return Ok(Program {
-                journal,
-                image,
-                used,
-            });
+            return Ok(Program { used, ..program });
         }
         Kind::Path => paths::write_path(out, journal, image, bytes, used, slots)?,
         Kind::Name => paths::write_name(out, journal, image, bytes)?,
