@@ -5,10 +5,8 @@ use mathlib.Core.List.{List, [], ◌∷◌, ◌++◌}
 use native.Mathlib.Nat.{zero-add, add-zero, add-suc, suc-add, mul-zero, mul-suc, mul-le-mul_left, mul-div-le, le_trans}
 use native.Mathlib.Numerals.{add-one}
 use native.Mathlib.Omega.{arith}
-use mathlib.Core.List.{append_assoc}
-use lib.ListN.{length, length-append, set, take, drop}
-use lib.Seq.{sets, sets-eq, length-sets, drop-drop}
-use borrow.Rule.Slice.PartMut.{put_mid}
+use lib.ListN.{length, length-append, length-set, set, get_or, drop}
+use lib.Seq.{sets, sets-eq, length-sets, drop-cons, drop-length}
 use Rattle.base.specs.Lists.{flatten, overwrite}
 
 -- stores of one row and then another
@@ -68,8 +66,27 @@ module _ {A : Type 0} (words : A → List ℕ) (k : ℕ) (rows : (x : A) → len
     pub writing-end : todo ≡ [] → length all ≤ length l₀ / k → l ≡ overwrite l₀ (flatten words all)
     writing-end e h = ap (λ (xs : List A). sets l i (flatten words xs)) (sym e) ∙ w.ends ∙ sets-front l₀ (flatten words all) (rows_inside all (length l₀) h)
 
--- A part of a list that is written over with as many items as it has: these items stored from its start on.
-pub put_mid-sets : {A : Type 0} (i n : ℕ) (xs l : List A) {part : List A} → part ≡ xs → n ≡ length xs → i + length xs ≤ length l → put_mid i n l part ≡ sets l i xs
-put_mid-sets {A} i n xs l e f h =
-    rw (e, f)
-    (ap (λ (rest : List A). take i l ++ (xs ++ rest)) (drop-drop (length xs) i l) ∙ sym (append_assoc (take i l) xs (drop (i + length xs) l)) ∙ sym (sets-eq xs l i h))
+-- A loop that copies all items into a list that was l₀, from i on, and has copied k of them: what it goes on to store ends in all of them.
+pub record Copying {A : Type 0} (items l₀ l : List A) (i k : ℕ) : Type 0 where
+  pub ends : sets l (i + k) (drop k items) ≡ sets l₀ i items
+  pub same : length l ≡ length l₀
+  pub near : k ≤ length items
+
+pub copying-start : {A : Type 0} (items l : List A) (i : ℕ) → Copying items l l i 0
+copying-start items l i = record { ends = rw add-zero; same = refl; near = omega arith }
+
+module _ {A : Type 0} {items l₀ l : List A} {i k : ℕ} (w : Copying items l₀ l i k) where
+  pub copying-word : (d : A) → k < length items → Copying items l₀ (set l (i + k) (get_or items k d)) i (k + 1)
+  copying-word d h =
+      record {
+        ends =
+            rw (add-one k, add-suc i k)
+            (ap (λ (xs : List A). sets l (i + k) xs) (sym (drop-cons items k d h)) ∙ w.ends);
+        same = length-set l (i + k) (get_or items k d) ∙ w.same;
+        near = omega arith;
+      }
+
+  pub copying-end : length items ≤ k → l ≡ sets l₀ i items
+  copying-end h =
+      let e : k ≡ length items = omega (arith, w.near) in
+      ap (λ (xs : List A). sets l (i + k) xs) (sym (drop-length items) ∙ ap (λ (n : ℕ). drop n items) (sym e)) ∙ w.ends

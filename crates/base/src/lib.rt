@@ -22,12 +22,14 @@ pub struct Place {
     pub length: usize,
 }
 
-// All of the items into a lent list, from i on.
+// All of the items into a lent list, from i on. By `copy_from_slice` the archives for C would want memcpy and memmove from outside.
 pub fn put<T: Copy>(list: &mut [T], i: usize, items: &[T])
     requires { i + length items.now ≤ length list.old }
     ensures { list.new ≡ sets list.old i items.now }
 {
-    list[i..i + items.len()].copy_from_slice(items);
+    for k in 0..items.len() {
+        list[i + k] = items[k];
+    }
 }
 
 // Two words of a lent list, from i on.
