@@ -11,7 +11,9 @@ use mft_sectors::reads::Restored;
 use mft_sectors::sound::is_sound;
 use usn_record::bytes::{le_u16, le_u32};
 
-// The entry that is carved of the candidate at an offset of an image; one that is rejected gives none.
+// The entry that is carved of the candidate at an offset of an image; one that is rejected gives none. Inlined into the loops: called, its
+// answer's room is cleared at every block of an image, and one where no entry begins takes twice the time.
+#[inline(always)]
 #[tactic(auto, unfolding(crate::specs::Entry::judged))]
 pub(crate) fn try_carve_entry(
     entry: &[u8],
