@@ -33,8 +33,8 @@ use Rattle.rewind_steps.specs.Taking.{Step, step_of, taken}
 use Rattle.rewind.specs.Stepping.{forward_table, stepped}
 use Rattle.rewind_steps.specs.StepText.{record_text, next_text}
 use Rattle.rewind.specs.Written.{stepped_with_text}
-use Rattle.rewind_steps.specs.Making.{making, made_of, told_of}
-use Rattle.rewind.specs.Promise.{ChainSteps, PathSteps, Tells}
+use Rattle.rewind_steps.specs.Making.{making, made_of, told_of, table_after, text_after, WayAfter}
+use Rattle.rewind.specs.Promise.{ChainSteps, PathSteps}
 use Rattle.rewind_steps.specs.Promise.{StepAsks, StepLeaves}
 use Rattle.rewind.specs.declared.Rewind.{Rewind}
 use Rattle.rewind.specs.declared.Step.{Step as Answer}
@@ -47,6 +47,13 @@ use Rattle.base.specs.declared.refusal.Refusal.{Refusal}
 use Rattle.additions.proofs.EntryLaws.{entry-inside}
 use Rattle.rewind_records.proofs.RecordLaws.{number-answered, next-is, none_left}
 use Rattle.rewind_records.proofs.TurnLaws.{Passed, passed}
+
+-- the work of a step with text that comes to o, from a table t: what is told of it, the words of the forward table, the way, and the text
+pub record Tells (journal image text : List ℕ) (o : Outcome (Next Step)) (t : Table) (r : Outcome (Next Told)) (words' way' text' : List ℕ) : Type 0 where
+  pub answer : r ≡ made_of journal image 0 o
+  pub forward : words' ≡ (table_after o t).words
+  pub way-is : WayAfter o way'
+  pub text-is : text' ≡ text_after journal image 0 o text
 
 -- what is answered with its text has room for it
 text-room : {A : Type 0} (text : A → List ℕ) (room : ℕ) (o : Outcome A) {a : A} → with_text text room o ≡ answered a → length (text a) ≤ room

@@ -1,5 +1,5 @@
 -- What the calls promise. Each record says it of lists: what the lent slices hold before, and, with ', after. The promise itself takes the call's parameters.
-use Rattle.std.specs.Prelude.{ℕ, ◌≡◌, List, [], length, Result, Option}
+use Rattle.std.specs.Prelude.{ℕ, ◌≡◌, List, [], length, Result}
 use Rattle.base.specs.Lent.{Lent, MutLent, before, before_mut, after}
 use Rattle.base.specs.Lists.{list_after}
 use Rattle.base.specs.Outcome.{Outcome, outcome, map_outcome}
@@ -10,12 +10,10 @@ use Rattle.entry_slots.specs.Index.{heads_after, nexts_after, heads_left, nexts_
 use Rattle.rewind.specs.Starting.{Tables, started, begun, first_after, forward_after}
 use Rattle.rewind_records.specs.Turning.{Next, next_outcome}
 use Rattle.rewind_steps.specs.Taking.{Step}
-use Rattle.rewind.specs.Stepping.{forward_table, stepped, step_answer, rewind_after, words_after, chain_after}
+use Rattle.rewind.specs.Stepping.{stepped, step_answer, rewind_after, words_after, chain_after}
 use Rattle.rewind.specs.Written.{stepped_with_text, written_answer}
 use Rattle.rewind_steps.specs.StepText.{next_text}
 use Rattle.rewind.specs.declared.Rewind.{Rewind}
-use Rattle.rewind_steps.specs.Making.{made_of, table_after, text_after, WayAfter}
-use Rattle.rewind_steps.specs.declared.Told.{Told}
 use Rattle.chain.specs.declared.ResolvedPath.{ResolvedPath}
 use Rattle.path.specs.declared.WrittenPath.{WrittenPath}
 use Rattle.rewind.specs.declared.Step.{Step as Answer}
@@ -85,15 +83,3 @@ abbrev pub NextPromise : Lent → Lent → Lent → Rewind → MutLent → MutLe
 NextPromise journal image records rewind forward list text r =
     let o = stepped_with_text (before journal) (before image) (before records) (before_mut forward) rewind (length (before_mut text)) in
     PathSteps (before journal) (before image) o rewind (before_mut forward) (before_mut list) (before_mut text) r (after forward) (after list) (after text)
-
--- the work of a step with text that comes to o, from a table t: what is told of it, the words of the forward table, the way, and the text
-pub record Tells (journal image text : List ℕ) (o : Outcome (Next Step)) (t : Table) (r : Outcome (Next Told)) (words' way' text' : List ℕ) : Type 0 where
-  pub answer : r ≡ made_of journal image 0 o
-  pub forward : words' ≡ (table_after o t).words
-  pub way-is : WayAfter o way'
-  pub text-is : text' ≡ text_after journal image 0 o text
-
-abbrev pub TellPromise : Lent → Lent → Lent → Rewind → MutLent → MutLent → MutLent → Result (Option Told) Refusal → Type 0
-TellPromise journal image records rewind forward way text r =
-    let o = stepped_with_text (before journal) (before image) (before records) (before_mut forward) rewind (length (before_mut text)) in
-    Tells (before journal) (before image) (before_mut text) o (forward_table (before_mut forward) rewind) (next_outcome r) (after forward) (after way) (after text)

@@ -8,9 +8,8 @@ use chain::way::list_chain;
 use entry_table::adding::add;
 use rewind_records::turn::next_record;
 
-// A step without text: it gives the chain alone, and moves on likewise.
-// Refused as rewind_next is, but never with 8.
-pub fn rewind_next_chain(
+// What `rewind_next_chain` does.
+pub(crate) fn next_chain(
     journal: &[u8],
     image: &[u8],
     records: &[usize],

@@ -16,19 +16,18 @@ mod chain_step;
 mod start;
 pub mod words;
 
-ghost use Rattle.std.specs.Prelude.{◌<◌, length};
-ghost use Rattle.chain.specs.Settings.{levels};
-ghost use Rattle.rewind.specs.Promise.{StartPromise, StartIndexedPromise, TellPromise, NextPromise};
+ghost use Rattle.rewind.specs.Promise.{StartPromise, StartIndexedPromise, NextPromise, NextChainPromise};
 
-pub use crate::chain_step::rewind_next_chain;
+use crate::chain_step::next_chain;
 use crate::start::begin;
 use base::refusal::Refusal;
+use chain::ResolvedPath;
 use chain::way::{WAY_WORDS, list_places};
 use entry_slots::links::is_enough;
 use entry_slots::slots::STRIDE;
 use path::WrittenPath;
 use rewind_records::turn::next_record;
-use rewind_steps::{Stand, Told, make_step};
+use rewind_steps::{Stand, make_step};
 
 // A rewind under way: how many slots of the forward table are used, and how many records are behind.
 #[derive(Clone, Copy)]
@@ -103,6 +102,7 @@ pub fn rewind_start_indexed(
 // Refused, with nothing written: 1 journal or image is above the domain, 9 the used slots are above the slots, 12 at a listed
 // offset stands no record, 7 the name's place of a used slot is outside its slice, 6 the record's key is new and no slot is
 // left, 8 the text is too small. A step that 8 refused can be repeated with a larger text.
+// The way is made for a record alone: making it takes longer than the call does where none is left.
 pub fn rewind_next(
     journal: &[u8],
     image: &[u8],
@@ -114,18 +114,42 @@ pub fn rewind_next(
 ) -> Step<WrittenPath>
     ensures { NextPromise journal image records rewind forward list text result }
 {
-    let mut way: [usize; WAY_WORDS] = [0; WAY_WORDS];
-    match tell_next(journal, image, records, rewind, forward, &mut way, text) {
-        Ok(Some(told)) => {
-            list_places(forward, &way, told.path.names, list);
-            Step {
-                next: Ok(Some(WrittenPath {
-                    path: told.path,
-                    text: told.at,
-                })),
-                rewind: Rewind {
-                    used: told.used,
-                    position: rewind.position + 1,
+    let image_length = image.len();
+    match next_record(
+        journal,
+        image_length,
+        records,
+        forward,
+        rewind.used,
+        rewind.position,
+    ) {
+        Ok(Some(entry)) => {
+            let mut heads: [u64; 0] = [];
+            let mut nexts: [u64; 0] = [];
+            let mut way: [usize; WAY_WORDS] = [0; WAY_WORDS];
+            let stand = Stand {
+                used: rewind.used,
+                at: 0,
+            };
+            match make_step(
+                journal, image, entry, stand, forward, &mut heads, &mut nexts, &mut way, text,
+            ) {
+                Ok(told) => {
+                    list_places(forward, &way, told.path.names, list);
+                    Step {
+                        next: Ok(Some(WrittenPath {
+                            path: told.path,
+                            text: told.at,
+                        })),
+                        rewind: Rewind {
+                            used: told.used,
+                            position: rewind.position + 1,
+                        },
+                    }
+                }
+                Err(refusal) => Step {
+                    next: Err(refusal),
+                    rewind,
                 },
             }
         }
@@ -140,39 +164,17 @@ pub fn rewind_next(
     }
 }
 
-// The next record into the forward table, and its path to the front of the text; the slots of its parent's path go to the way.
-fn tell_next(
+// A step without text: it gives the chain alone, and moves on likewise.
+// Refused as rewind_next is, but never with 8.
+pub fn rewind_next_chain(
     journal: &[u8],
     image: &[u8],
     records: &[usize],
     rewind: Rewind,
     forward: &mut [u64],
-    way: &mut [usize],
-    text: &mut [u8],
-) -> Result<Option<Told>, Refusal>
-    requires { levels < length way.old }
-    ensures { TellPromise journal image records rewind forward way text result }
+    list: &mut [u64],
+) -> Step<ResolvedPath>
+    ensures { NextChainPromise journal image records rewind forward list result }
 {
-    let image_length = image.len();
-    let next = next_record(
-        journal,
-        image_length,
-        records,
-        forward,
-        rewind.used,
-        rewind.position,
-    )?;
-    let Some(entry) = next else {
-        return Ok(None);
-    };
-    let mut heads: [u64; 0] = [];
-    let mut nexts: [u64; 0] = [];
-    let stand = Stand {
-        used: rewind.used,
-        at: 0,
-    };
-    let told = make_step(
-        journal, image, entry, stand, forward, &mut heads, &mut nexts, way, text,
-    )?;
-    Ok(Some(told))
+    next_chain(journal, image, records, rewind, forward, list)
 }

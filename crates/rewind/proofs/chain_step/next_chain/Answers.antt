@@ -5,7 +5,7 @@ use native.Mathlib.Omega.{arith}
 use Rattle.base.specs.Outcome.{outcome}
 use Rattle.additions.proofs.EntryLaws.{added-forward}
 use Rattle.rewind.proofs.StepLaws.{record-next, chain-refused, chain-ended, chain-full, after-fits, chain-taken}
-use Rattle.rewind.proofs.chain_step.rewind_next_chain.Goals as goal
+use Rattle.rewind.proofs.chain_step.next_chain.Goals as goal
 
 pub add-requires : goal.add-requires
 add-requires c = (record-next c.args.journal.now c.args.image.now c.args.records.now _ _ c.next_record.ensures (c.in-Ok-Some.is ∙ ap Ok c.in-Ok-Some.field-0-is)).tests.fits
