@@ -34,7 +34,9 @@ pub fn rewind_run(
 ) -> Result<RewindRun, Refusal>
     ensures { RunPromise journal image records rewind forward heads nexts ends text result }
 {
-    check(journal, image.len(), records, forward, rewind.used)?;
+    if let Err(refusal) = check(journal, image.len(), records, forward, rewind.used) {
+        return Err(refusal);
+    }
     if is_enough(forward.len() / STRIDE, heads, nexts) {
         build(forward, rewind.used, heads, nexts);
         return Ok(run(
