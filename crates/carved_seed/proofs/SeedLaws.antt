@@ -5,7 +5,7 @@ use mathlib.Core.Path.{◌≡◌, refl, ap, sym, ◌∙◌}
 use mathlib.Core.List.{List, [], ◌∷◌}
 use mathlib.Core.Bool.{true, false}
 use native.Mathlib.Omega.{arith}
-use borrow.Author.Tests.{ltb-true, ltb-false, leb-true, leb-false}
+use borrow.Author.Tests.{ltb-true, ltb-false, leb-true, leb-false, lt-ltb, le-ltb}
 use lib.Dec.{ltb}
 use Rattle.base.specs.Outcome.{Outcome, refused, answered, outcome}
 use Rattle.base.specs.Refusals.{bad_state, name_outside, table_full, number_of}
@@ -27,12 +27,12 @@ use Rattle.std.specs.Prelude.{Result, Ok, Err}
 use Rattle.carved_seed.specs.Tests.{state_tested, names_tested, room_tested, onward, used_in}
 
 -- the test of names: of none, and after a refusal, which is handed on whatever is left
-names-none : (ls : Lengths) (o : Outcome ℕ) → names_tested ls [] o ≡ o
+pub names-none : (ls : Lengths) (o : Outcome ℕ) → names_tested ls [] o ≡ o
 unfolding names_tested every
 names-none ls (refused n) = refl
 names-none ls (answered used) = refl
 
-names-handed : (ls : Lengths) (xs ys : List Addition) (n : ℕ) → names_tested ls xs (refused n) ≡ names_tested ls ys (refused n)
+pub names-handed : (ls : Lengths) (xs ys : List Addition) (n : ℕ) → names_tested ls xs (refused n) ≡ names_tested ls ys (refused n)
 unfolding names_tested
 names-handed ls xs ys n = refl
 
@@ -60,18 +60,20 @@ module _ (ls : Lengths) (t₀ : Table) (f : ℕ → Addition) (count : ℕ) wher
   unfolding room_tested
   handed n q = over n refl refl refl q
 
-  by-room : t₀.used ≤ slots_in t₀.words → all_inside ls (names_of xs) ≡ true → Tested (room_tested t₀.words xs (answered t₀.used))
-  unfolding room_tested
-  by-room g q =
-      cond_cases Tested (fits t₀ xs (slots_in t₀.words))
-      (λ e.
-      inserted t₀.used refl
-      (record {
+  pub inserting-start : t₀.used ≤ slots_in t₀.words → all_inside ls (names_of xs) ≡ true → fits t₀ xs (slots_in t₀.words) ≡ true → Inserting ls t₀ f count 0 t₀
+  inserting-start g q e =
+      record {
         inside-all = sym (ap (all_inside ls) (map_rows _ f 0 count)) ∙ q;
         all = stored-inside ls t₀ xs g q;
         room = leb-true _ _ e;
         added = rows_start t₀ f count (leb-true _ _ e);
-      }))
+      }
+
+  by-room : t₀.used ≤ slots_in t₀.words → all_inside ls (names_of xs) ≡ true → Tested (room_tested t₀.words xs (answered t₀.used))
+  unfolding room_tested
+  by-room g q =
+      cond_cases Tested (fits t₀ xs (slots_in t₀.words))
+      (λ e. inserted t₀.used refl (inserting-start g q e))
       (λ e. over table_full refl refl refl (stored-inside ls t₀ xs g q ∙ adding-full t₀ xs (leb-false _ _ e)))
 
   by_names : t₀.used ≤ slots_in t₀.words → Tested (room_tested t₀.words xs (names_tested ls xs (answered t₀.used)))
@@ -128,18 +130,45 @@ module _ (ls : Lengths) (t₀ : Table) (f : ℕ → Addition) (count : ℕ) wher
       let q : storing ls t₀ xs ≡ answered (table s u) = v.all ∙ rows-added-all v.added l v.room in
       record { answer = eo ∙ sym (ap used_after q); slots-are = sym (ap (λ (x : Outcome Table). words_after x t₀.words) q) }
 
-  -- by the tests: where one refuses, and where none does
+  -- by the tests, one after the other: which of them refuses, and what seeding then does
+  abbrev tests : Outcome ℕ
+  tests = room_tested t₀.words xs (names_tested ls xs (state_tested (slots_in t₀.words) t₀.used))
+
+  pub tests-bad-state : slots_in t₀.words < t₀.used → tests ≡ refused bad_state
+  unfolding state_tested names_tested room_tested
+  tests-bad-state h = rw (lt-ltb _ _ h)
+
+  pub tests-outside : t₀.used ≤ slots_in t₀.words → all_inside ls (names_of xs) ≡ false → tests ≡ refused name_outside
+  unfolding state_tested names_tested room_tested
+  tests-outside h e = rw (le-ltb _ _ h, e)
+
+  pub tests-full : t₀.used ≤ slots_in t₀.words → all_inside ls (names_of xs) ≡ true → fits t₀ xs (slots_in t₀.words) ≡ false → tests ≡ refused table_full
+  unfolding state_tested names_tested room_tested
+  tests-full h e g = rw (le-ltb _ _ h, e, g)
+
+  pub tests-passed : t₀.used ≤ slots_in t₀.words → all_inside ls (names_of xs) ≡ true → fits t₀ xs (slots_in t₀.words) ≡ true → tests ≡ answered t₀.used
+  unfolding state_tested names_tested room_tested
+  tests-passed h e g = rw (le-ltb _ _ h, e, g)
+
+  -- where one refuses, seeding does
+  pub tests-refused : {n : ℕ} → tests ≡ refused n → storing ls t₀ xs ≡ refused n
+  tests-refused {n} h = go (rw h at stands-tested)
+    where
+      go : {i : ℕ} → Stands ls t₀ f count t₀.words (refused n) i → storing ls t₀ xs ≡ refused n
+      go (over m es eo ei q) = let same : m ≡ n = cc in q ∙ ap refused same
+      go (inserted u eo v) = let z : ◌≡◌ {A = ℕ} 0 1 = cc in absurd (omega arith)
+
+  -- and where none does, no entry is inserted yet
+  pub tests-start : tests ≡ answered t₀.used → Inserting ls t₀ f count 0 t₀
+  tests-start h = go (rw h at stands-tested)
+    where
+      go : Stands ls t₀ f count t₀.words (answered t₀.used) 0 → Inserting ls t₀ f count 0 t₀
+      go (over n es eo ei q) = let z : ◌≡◌ {A = ℕ} 0 1 = cc in absurd (omega arith)
+      go (inserted u eo v) = let same : t₀.used ≡ u = cc in rw (← same) at v
+
+  -- a refused seeding answers the refusal and leaves the table
   pub seed-refused : {k : Refusal} → storing ls t₀ xs ≡ refused (number_of k) → Stores (storing ls t₀ xs) t₀.words (Err k) t₀.words
   seed-refused q = record { answer = sym (ap used_after q); slots-are = sym (ap (λ (x : Outcome Table). words_after x t₀.words) q) }
-
-  pub inserting-start : t₀.used ≤ slots_in t₀.words → all_inside ls (names_of xs) ≡ true → fits t₀ xs (slots_in t₀.words) ≡ true → Inserting ls t₀ f count 0 t₀
-  inserting-start g q e =
-      record {
-        inside-all = sym (ap (all_inside ls) (map_rows _ f 0 count)) ∙ q;
-        all = stored-inside ls t₀ xs g q;
-        room = leb-true _ _ e;
-        added = rows_start t₀ f count (leb-true _ _ e);
-      }
 
   -- a turn is not refused, and leads to the next one
   module _ {s s' : List ℕ} {i u : ℕ} {k : EntryKey} {e : EntryInfo} {r : Result ℕ Refusal} (v : Inserting ls t₀ f count i (table s u)) (l : i < count)
