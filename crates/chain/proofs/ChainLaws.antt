@@ -1,6 +1,6 @@
 -- The steps of a chain: each is the end, or a name under the chain of the parent. Assumes nothing.
-use Prim.Native.Nat.{ℕ, zero, suc, ◌-◌, ◌≤◌, ◌<◌}
-use mathlib.Core.Path.{◌≡◌, refl}
+use Prim.Native.Nat.{ℕ, zero, suc, ◌+◌, ◌-◌, ◌≤◌, ◌<◌}
+use mathlib.Core.Path.{◌≡◌, refl, ap}
 use mathlib.Core.Bool.{Bool, true, false, cond}
 use native.Mathlib.Omega.{arith}
 use borrow.Author.Tests.{eq-eqb, ne_eqb}
@@ -8,13 +8,15 @@ use lib.ListN.{length, length-append}
 use Rattle.entry_slots.specs.Slots.{info_at}
 use Rattle.entry_slots.specs.Table.{Table, find, lookup_found}
 use Rattle.entry_slots.specs.declared.EntryKey.{EntryKey}
+use Rattle.entry_slots.specs.declared.EntryInfo.{EntryInfo}
 use Rattle.std.specs.Prelude.{Option, Some, None}
 use Rattle.entry_slots.proofs.FindLaws.{find_at}
 use Rattle.chain.specs.declared.ChainEnd.{ChainEnd}
 use Rattle.chain.specs.declared.ChainEnd.TheVariants.{Root, Unknown, Unresolved}
+use Rattle.chain.specs.declared.ResolvedPath.{ResolvedPath}
 use Rattle.chain.specs.declared.steps.Way.{Way}
 use Rattle.chain.specs.declared.steps.Way.TheVariants.{End, Slot}
-use Rattle.chain.specs.Chain.{Chain, bare, under, is_root, linked, chain, way_found, way_of}
+use Rattle.chain.specs.Chain.{Chain, bare, under, is_root, linked, chain, resolved, way_found, way_of}
 
 -- the step by its tests
 module _ (t : Table) (n : ℕ) (k : EntryKey) where
@@ -84,3 +86,15 @@ names-most t zero k = omega arith
 names-most t (suc n) k =
     chain-cases (λ (c : Chain). length c.places ≤ suc n) t n k (λ e. omega arith)
     (λ i h. simp length-append (omega (arith, names-most t n (info_at t.words i).parent)))
+
+-- what a chain resolves to: at its end, and with a name more
+pub resolved-end : (t : Table) (n : ℕ) (k : EntryKey) {e : ChainEnd} → End e ≡ way_of t n k → ◌≡◌ {A = ResolvedPath} (record { names = 0; end = e }) (resolved (chain t n k))
+resolved-end t n k h = rw (chain-end t n k h)
+
+module _ (t : Table) (n : ℕ) (k : EntryKey) {i : ℕ} (h : Slot i ≡ way_of t n k) {info : EntryInfo} {above : ResolvedPath}
+    (e : info ≡ info_at t.words i) (f : above ≡ resolved (chain t (n - 1) info.parent)) where
+  pub names-below : above.names ≤ n - 1
+  names-below = omega (arith, ap (λ (r : ResolvedPath). r.names) f, names-most t (n - 1) info.parent)
+
+  pub resolved-up : ◌≡◌ {A = ResolvedPath} (record { names = above.names + 1; end = above.end }) (resolved (chain t n k))
+  resolved-up = rw ((chain-up t n k h).rest, f, e, length-append)

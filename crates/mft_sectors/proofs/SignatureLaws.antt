@@ -12,7 +12,8 @@ use Rattle.base.specs.Agree.{Agree}
 use Rattle.usn_record.specs.Bytes.{le_at}
 use Rattle.usn_record.proofs.ByteLaws.{read-agree}
 use Rattle.mft_sectors.specs.Signature.{signature, has_signature}
-use Rattle.mft_sectors.proofs.SectorLaws.{byte-is}
+use Rattle.mft_sectors.specs.SectorEnds.{restored_by}
+use Rattle.mft_sectors.proofs.SectorLaws.{byte-is, read-body}
 
 flip : (a b : ℕ) → eqb a b ≡ eqb b a
 flip a b = grind (arith, nat_tests)
@@ -35,3 +36,8 @@ unfolding has_signature
 signature-same e d n k g =
     let read : (i : ℕ) → i + 1 ≤ 4 → le_at 1 d i ≡ le_at 1 e i = λ i h. read-agree 1 i g (omega arith) (omega arith) in
     rw (read 0 (omega arith), read 1 (omega arith), read 2 (omega arith), read 3 (omega arith))
+
+-- the restored entry has the entry's signature
+pub signature-restored : (a : ℕ) (e : List ℕ) → has_signature (restored_by a e) ≡ has_signature e
+unfolding has_signature
+signature-restored a e = cc (read-body a e 1 0 (omega arith), read-body a e 1 1 (omega arith), read-body a e 1 2 (omega arith), read-body a e 1 3 (omega arith))

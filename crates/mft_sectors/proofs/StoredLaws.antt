@@ -90,6 +90,15 @@ module _ (size : ℕ) (s : List ℕ) (p : Place) (h : in_entry size s p ≡ true
       ∙ restored_at a e (p.offset - o + i) k
       ∙ part_in s o size (home a (p.offset - o + i)) (omega (arith, home-inside e (rw entry-long sectors) (sound-says e q.array) (p.offset - o + i) k, entry-long))
 
+-- how many bytes there are for a place inside the image
+pub image-bytes : (size : ℕ) (s : List ℕ) (p : Place) → p.offset + p.length ≤ length s → length (image_bytes size s p) ≡ p.length
+unfolding image_bytes
+image-bytes size s p l = by (in_entry size s p) refl
+  where
+    by : (b : Bool) → in_entry size s p ≡ b → length (image_bytes size s p) ≡ p.length
+    by true h = entry-bytes size s p h
+    by false h = simp h (part_length s p.offset p.length l)
+
 -- a place that lies in no entry is read as it is
 pub as-stored : (size : ℕ) (s : List ℕ) (p : Place) → in_entry size s p ≡ false → image_bytes size s p ≡ part s p.offset p.length
 unfolding image_bytes

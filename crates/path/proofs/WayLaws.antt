@@ -42,6 +42,14 @@ pub record WayText (l₀ l : List ℕ) (at to : ℕ) (rest whole : List ℕ) : T
   pub same : length l ≡ length l₀
   pub count : to + length rest ≡ at + length whole
 
+pub way-text-start : (l₀ : List ℕ) (at : ℕ) (front rest : List ℕ) {whole l : List ℕ} {to : ℕ} → whole ≡ front ++ rest → Put l₀ l at to front → WayText l₀ l at to rest whole
+way-text-start l₀ at front rest {whole} {l} {to} e p =
+    record {
+      ends = rw (p.text_after, p.value, e) (sym (sets-append l₀ at front rest));
+      same = ap length p.text_after ∙ length-sets l₀ at front;
+      count = omega (arith, p.value, ap length e, length-append front rest);
+    }
+
 module _ {l₀ l : List ℕ} {at to : ℕ} {rest whole : List ℕ} (w : WayText l₀ l at to rest whole) where
   pub way-text-room : (first more : List ℕ) → rest ≡ first ++ more → at + length whole ≤ length l₀ → to + length first ≤ length l
   way-text-room first more e h = omega (arith, w.count, w.same, ap length e, length-append first more)

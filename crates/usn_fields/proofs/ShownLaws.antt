@@ -15,6 +15,12 @@ unfolding shown_to
 shown-none [] = refl
 shown-none (x ∷ l) = refl
 
+pub shown-length : (i : ℕ) (l : List ℕ) → length (shown_to i l) ≡ length l
+unfolding shown_to
+shown-length zero l = refl
+shown-length (suc i) [] = refl
+shown-length (suc i) (x ∷ l) = ap suc (shown-length i l)
+
 -- the next byte is still as it was, and is shown
 shown-more : (i : ℕ) (l : List ℕ) → i < length l → set (shown_to i l) i (shown_byte (get_or (shown_to i l) i 0)) ≡ shown_to (suc i) l
 unfolding shown_to

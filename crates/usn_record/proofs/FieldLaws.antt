@@ -3,6 +3,7 @@ use Prim.Native.Nat.{ℕ, ◌+◌, ◌*◌, ◌/◌, ◌%◌, ◌^◌, ◌≤◌
 use mathlib.Core.Path.{◌≡◌, refl, sym, ap, ◌∙◌}
 use mathlib.Core.List.{List}
 use mathlib.Core.Bool.{Bool, true, false, cond, ◌||◌}
+use native.Mathlib.Nat.{add-zero}
 use native.Mathlib.Omega.{arith}
 use lib.ListN.{length}
 use lib.Dec.{ltb}
@@ -43,6 +44,9 @@ module _ (s : List ℕ) (o : ℕ) {a : ℕ} (ea : a ≡ le_at 8 s o) {r : Refere
 
   pub past-reference : w ≡ true → length s < o + 16 → r ≡ reference_of q (0 + 0 * 2 ^ 64) → r ≡ reference_of q (le_at (cond w 16 8) s o)
   past-reference ew h e = e ∙ ap (reference_of q) (sym (read_past 16 s o h) ∙ rw ew)
+
+  pub narrow-reference : w ≡ false → r ≡ reference_of q (a + 0 * 2 ^ 64) → r ≡ reference_of q (le_at (cond w 16 8) s o)
+  narrow-reference ew e = e ∙ ap (reference_of q) (add-zero a ∙ ea ∙ rw ew)
 
 -- a name: empty at 0, or of an even length at least 2, at its offset, and inside
 abbrev pub NameAt : ℕ → ℕ → Place → Type 0

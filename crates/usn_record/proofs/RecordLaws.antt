@@ -222,6 +222,10 @@ pub major-of : (l : Layout) (s : List ℕ) → (record_of l s).major_version ≡
 unfolding record_of
 major-of l s = refl
 
+pub record-length-of : (l : Layout) (s : List ℕ) → (record_of l s).record_length ≡ le_at 4 s 0
+unfolding record_of
+record-length-of l s = refl
+
 -- the ways out of `listed`, with n and v the length and version as they were read
 module _ (s : List ℕ) (o : ℕ) where
   pub listed-no-header : length s < o + 8 → refused not_a_record ≡ listed s o
