@@ -1,14 +1,13 @@
 // Lines with numbers, a record's fields, a text or a refusal, each put to a writer.
 use base::Place;
-use base::refusal::Refusal;
 use std::io;
 use std::io::Write;
 use usn_record::UsnRecord;
-use usn_record::bytes::{le_u16, signed_bits};
+use usn_record::bytes::{byte_at, le_u16, signed_bits};
 
-// A line that no recording has.
-pub fn write_refused<W: Write>(out: &mut W, refusal: Refusal) -> io::Result<()> {
-    write_count(out, b"refused ", refusal.number() as u64)?;
+// A line that no recording has: the number of a refusal, which is any.
+pub fn write_refused<W: Write>(out: &mut W, n: u32) -> io::Result<()> {
+    write_count(out, b"refused ", n as u64)?;
     out.write_all(b"\n")
 }
 
@@ -68,7 +67,7 @@ fn write_units<W: Write>(out: &mut W, units: &[u8]) -> io::Result<()> {
     Ok(())
 }
 
-// A line: the first n bytes of a text in hexadecimal, or a dash.
+// A line: the first n bytes of a text in hexadecimal, 00 for one past its end, or a dash where n is 0.
 pub fn write_hex<W: Write>(out: &mut W, text: &[u8], n: usize) -> io::Result<()> {
     if n == 0 {
         out.write_all(b"-")?;
@@ -77,9 +76,10 @@ pub fn write_hex<W: Write>(out: &mut W, text: &[u8], n: usize) -> io::Result<()>
     out.write_all(b"\n")
 }
 
-// Two digits a byte.
+// Two digits a byte. An index and no slice's iterator, since n may pass the text.
 fn write_digits<W: Write>(out: &mut W, text: &[u8], n: usize) -> io::Result<()> {
-    for byte in text.iter().take(n) {
+    for i in 0..n {
+        let byte = byte_at(text, i);
         write!(out, "{byte:02x}")?;
     }
     Ok(())

@@ -19,7 +19,7 @@ pub(crate) fn carve<W: Write>(out: &mut W, image: &[u8]) -> io::Result<()> {
             }
             Ok(())
         }
-        Err(refusal) => write_refused(out, refusal),
+        Err(refusal) => write_refused(out, refusal.number()),
     }
 }
 

@@ -45,7 +45,7 @@ pub(crate) fn stored<W: Write>(
             Ok(n)
         }
         Err(refusal) => {
-            write_refused(out, refusal)?;
+            write_refused(out, refusal.number())?;
             Ok(used)
         }
     }

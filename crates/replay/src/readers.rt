@@ -36,7 +36,7 @@ pub(crate) fn scan<W: Write>(out: &mut W, journal: &[u8]) -> io::Result<()> {
             }
             Ok(())
         }
-        Err(refusal) => write_refused(out, refusal),
+        Err(refusal) => write_refused(out, refusal.number()),
     }
 }
 
@@ -51,7 +51,7 @@ pub(crate) fn carve<W: Write>(out: &mut W, journal: &[u8]) -> io::Result<()> {
             }
             Ok(())
         }
-        Err(refusal) => write_refused(out, refusal),
+        Err(refusal) => write_refused(out, refusal.number()),
     }
 }
 
@@ -75,7 +75,7 @@ fn write_at<W: Write>(out: &mut W, journal: &[u8], offset: usize) -> io::Result<
             Some(bytes) => write_record(out, record, bytes),
             None => Ok(()),
         },
-        Err(refusal) => write_refused(out, refusal),
+        Err(refusal) => write_refused(out, refusal.number()),
     }
 }
 

@@ -18,7 +18,7 @@ pub(crate) fn rewind_journal<W: Write>(
     let mut list = [0usize; 600];
     match parse_usn_journal(journal, &mut list) {
         Ok(n) => rewind_listed(out, journal, image, &list, n),
-        Err(refusal) => write_refused(out, refusal),
+        Err(refusal) => write_refused(out, refusal.number()),
     }
 }
 
@@ -51,7 +51,7 @@ fn seed_carved<W: Write>(
     match carve_mft_entries(image, &mut entries) {
         Ok(stats) => seed_first(out, journal, image, &entries, stats.entries_carved, slots),
         Err(refusal) => {
-            write_refused(out, refusal)?;
+            write_refused(out, refusal.number())?;
             Ok(0)
         }
     }
@@ -72,7 +72,7 @@ fn seed_first<W: Write>(
     match entry_table::seed(journal, image, slots, 0, &entries[..n * ENTRY_WORDS]) {
         Ok(used) => Ok(used),
         Err(refusal) => {
-            write_refused(out, refusal)?;
+            write_refused(out, refusal.number())?;
             Ok(0)
         }
     }
@@ -94,7 +94,7 @@ fn rewind_records<W: Write>(
             out.write_all(b"\n")?;
             write_paths(out, journal, image, records, rewind, &mut forward)
         }
-        Err(refusal) => write_refused(out, refusal),
+        Err(refusal) => write_refused(out, refusal.number()),
     }
 }
 
@@ -118,7 +118,7 @@ fn write_paths<W: Write>(
         match step.next {
             Ok(Some(written)) => write_hex(out, &text, written.text)?,
             Ok(None) => return Ok(()),
-            Err(refusal) => return write_refused(out, refusal),
+            Err(refusal) => return write_refused(out, refusal.number()),
         }
     }
     Ok(())

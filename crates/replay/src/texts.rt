@@ -12,6 +12,6 @@ pub(crate) fn write_text<W: Write>(
 ) -> io::Result<()> {
     match decoded {
         Ok(n) => write_hex(out, text, n),
-        Err(refusal) => write_refused(out, refusal),
+        Err(refusal) => write_refused(out, refusal.number()),
     }
 }
