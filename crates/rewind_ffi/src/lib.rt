@@ -113,17 +113,15 @@ pub extern "C" fn rewind_next_chain(
     if out.len() < CHAIN_STEP_WORDS {
         return short_over(journal, image);
     }
-    put_step(
-        rewind::rewind_next_chain(
-            journal,
-            image,
-            records,
-            Rewind { used, position },
-            forward,
-            chain,
-        ),
-        out,
-    )
+    let step = rewind::rewind_next_chain(
+        journal,
+        image,
+        records,
+        Rewind { used, position },
+        forward,
+        chain,
+    );
+    put_step(step, out)
 }
 
 // What rewind_start does, by way of an index in the words of heads and nexts, whatever they hold.
